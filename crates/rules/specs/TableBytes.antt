@@ -69,8 +69,12 @@ recordOf b = record {
   end = numAt b 15 8;
 }
 
+-- the bytes of record i
+abbrev pub rowAt : List ℕ → ℕ → List ℕ
+rowAt b i = part (place i) recordSize b
+
 abbrev pub recordAt : List ℕ → ℕ → Record
-recordAt b i = recordOf (part (place i) recordSize b)
+recordAt b i = recordOf (rowAt b i)
 
 unfoldable pub settingsOf : List ℕ → Settings
 settingsOf b = record {

@@ -1,0 +1,184 @@
+-- The shapes of loops, with their laws: over the things at places i to n, one a turn.
+--   turn, end         of each shape: what is still to be done is one more and the rest, or nothing
+--   -at, -made        what holds of a list holds at each place, and back
+--   -keep, -last      what a filter leaves and one more at the end keep
+use mathlib.Core.Path.{_≡_, refl, sym, ap, _∙_}
+use mathlib.Core.Bool.{Bool, true, false, cond, not, _&&_}
+use mathlib.Core.List.{List, [], _∷_, _++_, map}
+use mathlib.Core.Option.{Option, none, some}
+use Prim.Native.Nat.{ℕ, zero, suc, _+_, _-_, _≤_, _<_}
+use native.Mathlib.Omega.{arith}
+use lib.Dec.{eqb}
+use lib.ListN.{length}
+use borrow.Author.Tests.{eqb-true, eqb-false}
+use Rattle.rules.specs.Words.{all, any, noTwo, consIf, keep, first, from}
+use Rattle.laws.specs.Tests.{false-true, both}
+use Rattle.laws.specs.Parts.{left}
+
+-- the place of the first that passes, counted from i
+module _ {A : Type 0} where
+  abbrev pub firstPlace : (A → Bool) → List A → ℕ → Option ℕ
+  firstPlace f [] i = none
+  firstPlace f (x ∷ xs) i = cond (f x) (some i) (firstPlace f xs (i + 1))
+
+-- ---------------------------------------------------------------- one turn, and the end
+
+module _ {A : Type 0} (g : ℕ → A) (i n : ℕ) where
+  pub from-turn : i < n → from g i (n - i) ≡ g i ∷ from g (i + 1) (n - (i + 1))
+  from-turn h = rw (left n i h)
+
+  pub from-end : n ≤ i → from g i (n - i) ≡ []
+  from-end h = let z : n - i ≡ 0 = omega arith in rw z
+
+  -- all below n
+  pub all-turn : (f : A → Bool) {b : Bool} → i < n → f (g i) ≡ b → all f (from g i (n - i)) ≡ b && all f (from g (i + 1) (n - (i + 1)))
+  all-turn f h e = rw (from-turn h, e)
+
+  pub all-end : (f : A → Bool) → n ≤ i → all f (from g i (n - i)) ≡ true
+  all-end f h = rw (from-end h)
+
+  -- no two below n
+  pub two-turn : (r : A → A → Bool) {b : Bool} → i < n → all (r (g i)) (from g (i + 1) (n - (i + 1))) ≡ b
+      → noTwo r (from g i (n - i)) ≡ b && noTwo r (from g (i + 1) (n - (i + 1)))
+  two-turn r h e = rw (from-turn h, e)
+
+  pub two-end : (r : A → A → Bool) → n ≤ i → noTwo r (from g i (n - i)) ≡ true
+  two-end r h = rw (from-end h)
+
+  -- the least below n
+  pub place-turn : (f : A → Bool) {b : Bool} → i < n → f (g i) ≡ b
+      → firstPlace f (from g i (n - i)) i ≡ cond b (some i) (firstPlace f (from g (i + 1) (n - (i + 1))) (i + 1))
+  place-turn f h e = rw (from-turn h, e)
+
+  pub place-end : (f : A → Bool) → n ≤ i → firstPlace f (from g i (n - i)) i ≡ none
+  place-end f h = rw (from-end h)
+
+  -- those below n that pass
+  pub keep-turn : (f : A → Bool) {b : Bool} → i < n → f (g i) ≡ b → keep f (from g i (n - i)) ≡ consIf b (g i) (keep f (from g (i + 1) (n - (i + 1))))
+  keep-turn f h e = rw (from-turn h, e)
+
+  pub keep-end : (f : A → Bool) → n ≤ i → keep f (from g i (n - i)) ≡ []
+  keep-end f h = rw (from-end h)
+
+-- ---------------------------------------------------------------- at each place, and back
+
+module _ {A : Type 0} (g : ℕ → A) where
+  pub from-length : (k i : ℕ) → length (from g i k) ≡ k
+  from-length zero i = refl
+  from-length (suc k) i = ap suc (from-length k (i + 1))
+
+  pub all-at : (f : A → Bool) (k i j : ℕ) → i ≤ j → j < i + k → all f (from g i k) ≡ true → f (g j) ≡ true
+  all-at f zero i j h l e = absurd (omega arith)
+  all-at f (suc k) i j h l e =
+      let p = both (f (g i)) (all f (from g (i + 1) k)) e in
+      by (eqb i j) refl (p .0) (λ m. all-at f k (i + 1) j m (omega arith) (p .1))
+    where
+      by : (b : Bool) → eqb i j ≡ b → f (g i) ≡ true → (i + 1 ≤ j → f (g j) ≡ true) → f (g j) ≡ true
+      by true q a r = let m : i ≡ j = eqb-true i j q in (rw m at a)
+      by false q a r = r (let n = eqb-false i j q in omega arith)
+
+  pub all-made : (f : A → Bool) (k i : ℕ) → ((j : ℕ) → i ≤ j → j < i + k → f (g j) ≡ true) → all f (from g i k) ≡ true
+  all-made f zero i h = refl
+  all-made f (suc k) i h = rw (h i (omega arith) (omega arith)) (all-made f k (i + 1) (λ j a b. h j (omega arith) (omega arith)))
+
+  pub two-at : (r : A → A → Bool) (k i a b : ℕ) → i ≤ a → a < b → b < i + k → noTwo r (from g i k) ≡ true → r (g a) (g b) ≡ true
+  two-at r zero i a b h l m e = absurd (omega arith)
+  two-at r (suc k) i a b h l m e =
+      let p = both (all (r (g i)) (from g (i + 1) k)) (noTwo r (from g (i + 1) k)) e in
+      by (eqb i a) refl (p .0) (λ x. two-at r k (i + 1) a b x l (omega arith) (p .1))
+    where
+      by : (c : Bool) → eqb i a ≡ c → all (r (g i)) (from g (i + 1) k) ≡ true → (i + 1 ≤ a → r (g a) (g b) ≡ true) → r (g a) (g b) ≡ true
+      by true q s u = let x : i ≡ a = eqb-true i a q in all-at (r (g a)) k (a + 1) b (omega arith) (omega arith) (rw x at s)
+      by false q s u = u (let n = eqb-false i a q in omega arith)
+
+  pub two-made : (r : A → A → Bool) (k i : ℕ) → ((a b : ℕ) → i ≤ a → a < b → b < i + k → r (g a) (g b) ≡ true) → noTwo r (from g i k) ≡ true
+  two-made r zero i h = refl
+  two-made r (suc k) i h =
+      rw (all-made (r (g i)) k (i + 1) (λ j x y. h i j (omega arith) (omega arith) (omega arith)))
+      (two-made r k (i + 1) (λ a b x y z. h a b (omega arith) y (omega arith)))
+
+  -- what is found passes the test, and all before it fail
+  pub place-passes : (f : A → Bool) (k j i : ℕ) → firstPlace f (from g j k) j ≡ some i → (j ≤ i) × (i < j + k) × (f (g i) ≡ true)
+  place-passes f zero j i e = let z : _≡_ {A = ℕ} 0 1 = cc in absurd (omega arith)
+  place-passes f (suc k) j i e = by (f (g j)) refl (place-passes f k (j + 1) i)
+    where
+      by : (b : Bool) → f (g j) ≡ b → (firstPlace f (from g (j + 1) k) (j + 1) ≡ some i → (j + 1 ≤ i) × (i < j + 1 + k) × (f (g i) ≡ true))
+          → (j ≤ i) × (i < j + suc k) × (f (g i) ≡ true)
+      by true q r = let h : some j ≡ some i = (rw q at e) in let m : j ≡ i = cc in (omega arith, omega arith, rw (← m) q)
+      by false q r = let s = r (rw q at e) in (omega arith, omega arith, s .2)
+
+  -- nothing is found exactly where all fail
+  pub place-none : (f : A → Bool) (k j : ℕ) → firstPlace f (from g j k) j ≡ none → all (λ x. not (f x)) (from g j k) ≡ true
+  place-none f zero j e = refl
+  place-none f (suc k) j e = by (f (g j)) refl (place-none f k (j + 1))
+    where
+      by : (b : Bool) → f (g j) ≡ b → (firstPlace f (from g (j + 1) k) (j + 1) ≡ none → all (λ x. not (f x)) (from g (j + 1) k) ≡ true)
+          → not (f (g j)) && all (λ x. not (f x)) (from g (j + 1) k) ≡ true
+      by true q r = let h : some j ≡ none = (rw q at e) in let z : _≡_ {A = ℕ} 0 1 = cc in absurd (omega arith)
+      by false q r = rw q (r (rw q at e))
+
+  -- the first that passes is the one at the first place
+  abbrev pub at : Option ℕ → Option A
+  at none = none
+  at (some i) = some (g i)
+
+  pub first-place : (f : A → Bool) (k j : ℕ) → first f (from g j k) ≡ at (firstPlace f (from g j k) j)
+  first-place f zero j = refl
+  first-place f (suc k) j = by (f (g j)) (first-place f k (j + 1))
+    where
+      by : (b : Bool) → first f (from g (j + 1) k) ≡ at (firstPlace f (from g (j + 1) k) (j + 1))
+          → cond b (some (g j)) (first f (from g (j + 1) k)) ≡ at (cond b (some j) (firstPlace f (from g (j + 1) k) (j + 1)))
+      by true e = refl
+      by false e = e
+
+-- ---------------------------------------------------------------- a filter, and one more
+
+module _ {A : Type 0} where
+  pub keep-few : (f : A → Bool) (l : List A) → length (keep f l) ≤ length l
+  keep-few f [] = omega arith
+  keep-few f (x ∷ l) = by (f x) (keep-few f l)
+    where
+      by : (b : Bool) → length (keep f l) ≤ length l → length (consIf b x (keep f l)) ≤ suc (length l)
+      by true h = omega arith
+      by false h = omega arith
+
+  pub all-keep : (g f : A → Bool) (l : List A) → all f l ≡ true → all f (keep g l) ≡ true
+  all-keep g f [] e = refl
+  all-keep g f (x ∷ l) e = let p = both (f x) (all f l) e in by (g x) (p .0) (all-keep g f l (p .1))
+    where
+      by : (b : Bool) → f x ≡ true → all f (keep g l) ≡ true → all f (consIf b x (keep g l)) ≡ true
+      by true h r = rw h r
+      by false h r = r
+
+  pub two-keep : (g : A → Bool) (r : A → A → Bool) (l : List A) → noTwo r l ≡ true → noTwo r (keep g l) ≡ true
+  two-keep g r [] e = refl
+  two-keep g r (x ∷ l) e = let p = both (all (r x) l) (noTwo r l) e in by (g x) (all-keep g (r x) l (p .0)) (two-keep g r l (p .1))
+    where
+      by : (b : Bool) → all (r x) (keep g l) ≡ true → noTwo r (keep g l) ≡ true → noTwo r (consIf b x (keep g l)) ≡ true
+      by true h s = rw h s
+      by false h s = s
+
+  pub all-last : (f : A → Bool) (l : List A) (x : A) → all f l ≡ true → f x ≡ true → all f (l ++ (x ∷ [])) ≡ true
+  all-last f [] x e h = rw h
+  all-last f (y ∷ l) x e h = let p = both (f y) (all f l) e in rw (p .0) (all-last f l x (p .1) h)
+
+  pub two-last : (r : A → A → Bool) (l : List A) (x : A) → noTwo r l ≡ true → all (λ y. r y x) l ≡ true → noTwo r (l ++ (x ∷ [])) ≡ true
+  two-last r [] x e h = refl
+  two-last r (y ∷ l) x e h =
+      let p = both (all (r y) l) (noTwo r l) e in
+      let q = both (r y x) (all (λ z. r z x) l) h in
+      rw (all-last (r y) l x (p .0) (q .0)) (two-last r l x (p .1) (q .1))
+
+-- what a map leaves passes where what it was made of does
+module _ {A B : Type 0} (f : B → Bool) (h : A → B) where
+  pub all-map : (l : List A) → all f (map h l) ≡ all (λ x. f (h x)) l
+  all-map [] = refl
+  all-map (x ∷ l) = rw (all-map l)
+
+  pub keep-map : (l : List A) → keep f (map h l) ≡ map h (keep (λ x. f (h x)) l)
+  keep-map [] = refl
+  keep-map (x ∷ l) = by (f (h x)) (keep-map l)
+    where
+      by : (b : Bool) → keep f (map h l) ≡ map h (keep (λ y. f (h y)) l) → consIf b (h x) (keep f (map h l)) ≡ map h (consIf b x (keep (λ y. f (h y)) l))
+      by true e = rw e
+      by false e = e

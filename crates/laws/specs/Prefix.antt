@@ -1,0 +1,180 @@
+-- Laws of prefixes, over the length.
+--   overlap→, overlap←        two prefixes with zero bits after overlap exactly where their addresses, as intervals, meet
+--   overlap-sym, inside-...   which way round; what lies inside what
+--   next-above, next-least    the next place is above, is aligned, and is the least such
+--   past                      where a record overlaps a place, it overlaps every place up to the next one past its end
+--   half-...                  prefixes of at most 64 bits by the upper half of their bits
+use mathlib.Core.Path.{_≡_, refl, sym, ap, _∙_, subst}
+use mathlib.Core.Bool.{Bool, true, false, _&&_}
+use Prim.Native.Nat.{ℕ, _+_, _-_, _*_, _/_, _%_, _^_, _≤_, _<_, min}
+use native.Mathlib.Nat.{mul-assoc, mul-mod-left, mod-lt, add-mul, one-mul, div-lt-iff-lt-mul, mul-le-mul-right, div-eq-of-lt-le, min-eq-left, min-eq-right, min-comm, div-add-mod', div-mul-le-self, le-of-lt, mod-eq-of-lt, mul-div-mul-right}
+use native.Mathlib.Omega.{arith}
+use lib.Dec.{eqb, leb, ltb}
+use lib.Pow.{pow-pos, pow-add, shr-shr, shl-shr, mod-pow-add}
+use borrow.Author.Tests.{eq-eqb, ne-eqb, eqb-true, eqb-false, leb-true, leb-false, ltb-true, ltb-false}
+use Rattle.rules.specs.Prefix.{Prefix, prefix, size, front, zeroAfter, overlap, inside, lastOf, nextPlace}
+use Rattle.laws.specs.Tests.{both, both-made, same-test}
+
+-- ---------------------------------------------------------------- sizes
+
+-- a shorter prefix's size is a multiple of a longer one's
+pub size-split : (a b : ℕ) → a ≤ b → size a ≡ 2 ^ ((128 - a) - (128 - b)) * size b
+size-split a b h =
+    let e : (128 - a) - (128 - b) + (128 - b) ≡ 128 - a = omega arith in
+    sym (ap (λ (x : ℕ). 2 ^ x) e) ∙ pow-add 2 ((128 - a) - (128 - b)) (128 - b)
+
+whole : (p s : ℕ) → p % s ≡ 0 → p / s * s ≡ p
+whole p s z = let d = div-add-mod' p s in omega arith
+
+one-more : (n s : ℕ) → (n + 1) * s ≡ n * s + s
+one-more n s = add-mul n 1 s ∙ ap (λ (x : ℕ). n * s + x) (one-mul s)
+
+finer : (p a b : ℕ) → a ≤ b → p % size a ≡ 0 → p % size b ≡ 0
+finer p a b h z =
+    let k = 2 ^ ((128 - a) - (128 - b)) in
+    let e : p ≡ p / size a * k * size b = sym (whole p (size a) z) ∙ ap (λ (s : ℕ). p / size a * s) (size-split a b h) ∙ sym (mul-assoc (p / size a) k (size b)) in
+    rw e (mul-mod-left (p / size a * k) (size b))
+
+-- the first bits of the first bits
+pub front-front : (p a b : ℕ) → a ≤ b → b ≤ 128 → front p a ≡ front p b / 2 ^ (b - a)
+front-front p a b h l =
+    let e : 128 - a ≡ 128 - b + (b - a) = omega arith in
+    ap (λ (k : ℕ). p / 2 ^ k) e ∙ sym (shr-shr p (128 - b) (b - a))
+
+-- ---------------------------------------------------------------- prefixes as intervals
+
+module _ (p a q b : ℕ) (le : a ≤ b) (zp : p % size a ≡ 0) (zq : q % size b ≡ 0) where
+  front→ : front p a ≡ front q a → (p < q + size b) × (q < p + size a)
+  front→ e =
+      let w : p / size a * size a ≡ p = whole p (size a) zp in
+      let d = div-add-mod' q (size a) in
+      let l = mod-lt q (pow-pos (128 - a)) in
+      let s = pow-pos (128 - b) in
+      let f : p / size a * size a ≡ q / size a * size a = ap (λ (x : ℕ). x * size a) e in
+      (omega arith, omega arith)
+
+  below : p < q + size b → p ≤ q
+  below h =
+      let w : p / size b * size b ≡ p = whole p (size b) (finer p a b le zp) in
+      let v : q / size b * size b ≡ q = whole q (size b) zq in
+      let m = one-more (q / size b) (size b) in
+      let g : p < (q / size b + 1) * size b = omega arith in
+      let c : p / size b < q / size b + 1 = div-lt-iff-lt-mul (pow-pos (128 - b)) .1 g in
+      let c′ : p / size b ≤ q / size b = omega arith in
+      let r : p / size b * size b ≤ q / size b * size b = mul-le-mul-right (size b) c′ in
+      omega arith
+
+  front← : p < q + size b → q < p + size a → front p a ≡ front q a
+  front← h g =
+      let w : p / size a * size a ≡ p = whole p (size a) zp in
+      let m = one-more (p / size a) (size a) in
+      let u = below h in
+      let x : p / size a * size a ≤ q = omega arith in
+      let y : q < (p / size a + 1) * size a = omega arith in
+      sym (div-eq-of-lt-le (size a) x y)
+
+pub overlap-sym : (p q : Prefix) → overlap p q ≡ overlap q p
+unfolding overlap
+overlap-sym p q =
+    rw (min-comm (p .length) (q .length))
+    (same-test (front (p .bits) (min (q .length) (p .length))) (front (q .bits) (min (q .length) (p .length)))
+    (front (q .bits) (min (q .length) (p .length))) (front (p .bits) (min (q .length) (p .length))) sym sym)
+
+module _ (p q : Prefix) (zp : zeroAfter p ≡ true) (zq : zeroAfter q ≡ true) where
+  alignedp : p .bits % size (p .length) ≡ 0
+  alignedp = eqb-true (p .bits % size (p .length)) 0 zp
+
+  alignedq : q .bits % size (q .length) ≡ 0
+  alignedq = eqb-true (q .bits % size (q .length)) 0 zq
+
+  pub overlap→ : overlap p q ≡ true → (p .bits < q .bits + size (q .length)) × (q .bits < p .bits + size (p .length))
+  unfolding overlap
+  overlap→ o = by (leb (p .length) (q .length)) refl
+    where
+      by : (t : Bool) → leb (p .length) (q .length) ≡ t → (p .bits < q .bits + size (q .length)) × (q .bits < p .bits + size (p .length))
+      by true e =
+          let le = leb-true (p .length) (q .length) e in
+          front→ (p .bits) (p .length) (q .bits) (q .length) le alignedp alignedq (eqb-true _ _ (rw (min-eq-left le) at o))
+      by false e =
+          let le : q .length ≤ p .length = le-of-lt (leb-false (p .length) (q .length) e) in
+          let r = front→ (q .bits) (q .length) (p .bits) (p .length) le alignedq alignedp (sym (eqb-true _ _ (rw (min-eq-right le) at o))) in
+          (r .1, r .0)
+
+  pub overlap← : p .bits < q .bits + size (q .length) → q .bits < p .bits + size (p .length) → overlap p q ≡ true
+  unfolding overlap
+  overlap← h g = by (leb (p .length) (q .length)) refl
+    where
+      by : (t : Bool) → leb (p .length) (q .length) ≡ t
+          → eqb (front (p .bits) (min (p .length) (q .length))) (front (q .bits) (min (p .length) (q .length))) ≡ true
+      by true e =
+          let le = leb-true (p .length) (q .length) e in
+          rw (min-eq-left le) (eq-eqb _ _ (front← (p .bits) (p .length) (q .bits) (q .length) le alignedp alignedq h g))
+      by false e =
+          let le : q .length ≤ p .length = le-of-lt (leb-false (p .length) (q .length) e) in
+          rw (min-eq-right le) (eq-eqb _ _ (sym (front← (q .bits) (q .length) (p .bits) (p .length) le alignedq alignedp g h)))
+
+-- what lies inside another overlaps it
+pub inside-overlap : (p q : Prefix) → inside p q ≡ true → overlap p q ≡ true
+unfolding inside overlap
+inside-overlap p q e =
+    let b = both (leb (q .length) (p .length)) (eqb (front (p .bits) (q .length)) (front (q .bits) (q .length))) e in
+    let le = leb-true (q .length) (p .length) (b .0) in
+    rw (min-eq-right le) (b .1)
+
+-- ---------------------------------------------------------------- the next place
+
+pub next-above : (x a : ℕ) → x < nextPlace x a
+unfolding nextPlace
+next-above x a =
+    let d = div-add-mod' x (size a) in
+    let m = mod-lt x (pow-pos (128 - a)) in
+    rw (add-mul, one-mul) (omega arith)
+
+pub next-zero : (x a : ℕ) → zeroAfter (prefix (nextPlace x a) a) ≡ true
+unfolding nextPlace
+next-zero x a = eq-eqb _ _ (mul-mod-left (x / size a + 1) (size a))
+
+pub next-least : (x a y : ℕ) → zeroAfter (prefix y a) ≡ true → x < y → nextPlace x a ≤ y
+unfolding nextPlace
+next-least x a y z h =
+    let w : y / size a * size a ≡ y = whole y (size a) (eqb-true (y % size a) 0 z) in
+    let g : x < y / size a * size a = omega arith in
+    let c : x / size a < y / size a = div-lt-iff-lt-mul (pow-pos (128 - a)) .1 g in
+    let c′ : x / size a + 1 ≤ y / size a = omega arith in
+    let r : (x / size a + 1) * size a ≤ y / size a * size a = mul-le-mul-right (size a) c′ in
+    omega arith
+
+-- q overlaps the place x of length a, both with zero bits after: the next place past q's end is above x,
+-- and q overlaps every place from x to below it, so nothing free is passed over
+module _ (q : Prefix) (x a : ℕ) (zq : zeroAfter q ≡ true) (zx : zeroAfter (prefix x a) ≡ true) (o : overlap q (prefix x a) ≡ true) where
+  pub past-above : x < nextPlace (lastOf q) a
+  past-above =
+      let i = overlap→ q (prefix x a) zq zx o in
+      let n = next-above (lastOf q) a in
+      let s = pow-pos (128 - q .length) in
+      omega arith
+
+  pub past : (y : ℕ) → zeroAfter (prefix y a) ≡ true → x ≤ y → y < nextPlace (lastOf q) a → overlap q (prefix y a) ≡ true
+  past y zy le lt =
+      let i = overlap→ q (prefix x a) zq zx o in
+      overlap← q (prefix y a) zq zy (omega arith) (by (ltb (lastOf q) y) refl)
+    where
+      by : (t : Bool) → ltb (lastOf q) y ≡ t → y < q .bits + size (q .length)
+      by true e = let n : nextPlace (lastOf q) a ≤ y = next-least (lastOf q) a y zy (ltb-true (lastOf q) y e) in omega arith
+      by false e = let n : y ≤ lastOf q = ltb-false (lastOf q) y e in let s = pow-pos (128 - q .length) in omega arith
+
+-- ---------------------------------------------------------------- the upper half
+
+-- a prefix of at most 64 bits by the upper half of its bits
+half-size : (a : ℕ) → a ≤ 64 → size a ≡ 2 ^ (64 - a) * 2 ^ 64
+half-size a h = let e : 128 - a ≡ 64 - a + 64 = omega arith in ap (λ (k : ℕ). 2 ^ k) e ∙ pow-add 2 (64 - a) 64
+
+pub half-front : (p a : ℕ) → a ≤ 64 → front (p * 2 ^ 64) a ≡ p / 2 ^ (64 - a)
+half-front p a h = ap (λ (s : ℕ). p * 2 ^ 64 / s) (half-size a h) ∙ mul-div-mul-right p (2 ^ (64 - a)) (pow-pos 64)
+
+pub half-rest : (p a : ℕ) → a ≤ 64 → p * 2 ^ 64 % size a ≡ p % 2 ^ (64 - a) * 2 ^ 64
+half-rest p a h =
+    let e : 128 - a ≡ 64 - a + 64 = omega arith in
+    ap (λ (k : ℕ). p * 2 ^ 64 % 2 ^ k) e ∙ mod-pow-add (p * 2 ^ 64) (64 - a) 64
+    ∙ ap (λ (x : ℕ). x % 2 ^ (64 - a) * 2 ^ 64 + p * 2 ^ 64 % 2 ^ 64) (shl-shr p 64)
+    ∙ omega (arith, mul-mod-left p (2 ^ 64))
