@@ -9,11 +9,11 @@ use mathlib.Core.Option.{Option, none, some}
 use Prim.Native.Nat.{ℕ, zero, suc, _+_, _-_, _≤_, _<_}
 use native.Mathlib.Omega.{arith}
 use lib.Dec.{eqb}
-use lib.ListN.{length}
-use borrow.Author.Tests.{eqb-true, eqb-false}
-use Rattle.rules.specs.Words.{all, any, noTwo, consIf, keep, first, from}
+use lib.ListN.{length, getD, drop, drop-of-length-le}
+use borrow.Author.Tests.{eq-eqb, ne-eqb, eqb-true, eqb-false}
+use Rattle.rules.specs.Words.{all, noTwo, consIf, keep, first, from, part, sameBytes}
 use Rattle.laws.specs.Tests.{false-true, both}
-use Rattle.laws.specs.Parts.{left}
+use Rattle.laws.specs.Parts.{left, left-part, left-list}
 
 -- the place of the first that passes, counted from i
 module _ {A : Type 0} where
@@ -182,3 +182,31 @@ module _ {A B : Type 0} (f : B → Bool) (h : A → B) where
       by : (b : Bool) → keep f (map h l) ≡ map h (keep (λ y. f (h y)) l) → consIf b (h x) (keep f (map h l)) ≡ map h (consIf b x (keep (λ y. f (h y)) l))
       by true e = rw e
       by false e = e
+
+-- ---------------------------------------------------------------- over the bytes of a part
+
+module _ (f : ℕ → Bool) (t : List ℕ) (at n k : ℕ) where
+  pub part-turn : {b : Bool} → k < n → at + n ≤ length t → f (getD t (at + k) 0) ≡ b → all f (part (at + k) (n - k) t) ≡ b && all f (part (at + (k + 1)) (n - (k + 1)) t)
+  part-turn h g e = rw (left-part at n k t h g, e)
+
+  pub part-end : n ≤ k → all f (part (at + k) (n - k) t) ≡ true
+  unfolding part
+  part-end h = let z : n - k ≡ 0 = omega arith in rw z
+
+-- n bytes of t from o beside those of s
+module _ (o n k : ℕ) (t s : List ℕ) where
+  same-turn : k < n → o + n ≤ length t → k < length s
+      → sameBytes (part (o + k) (n - k) t) (drop k s) ≡ eqb (getD t (o + k) 0) (getD s k 0) && sameBytes (part (o + (k + 1)) (n - (k + 1)) t) (drop (k + 1) s)
+  same-turn h f g = rw (left-part o n k t h f, left-list s k g)
+
+  pub same-go : k < n → o + n ≤ length t → k < length s → getD t (o + k) 0 ≡ getD s k 0
+      → sameBytes (part (o + k) (n - k) t) (drop k s) ≡ sameBytes (part (o + (k + 1)) (n - (k + 1)) t) (drop (k + 1) s)
+  same-go h f g e = same-turn h f g ∙ rw (eq-eqb _ _ e)
+
+  pub same-stop : k < n → o + n ≤ length t → k < length s → (getD t (o + k) 0 ≡ getD s k 0 → ⊥)
+      → sameBytes (part (o + k) (n - k) t) (drop k s) ≡ false
+  same-stop h f g e = same-turn h f g ∙ rw (ne-eqb _ _ e)
+
+  pub same-end : n ≤ k → length s ≤ k → sameBytes (part (o + k) (n - k) t) (drop k s) ≡ true
+  unfolding part
+  same-end h g = let z : n - k ≡ 0 = omega arith in rw (z, drop-of-length-le s g)

@@ -3,14 +3,14 @@ use mathlib.Core.Path.{_≡_, refl, ap, sym, _∙_, subst}
 use Prim.Native.Nat.{ℕ, zero, suc, _+_, _-_, _*_, _/_, _%_, _^_, _≤_, _<_}
 use mathlib.Core.List.{List, [], _∷_}
 use native.Mathlib.Omega.{arith}
-use native.Mathlib.Nat.{mod-eq-of-lt, mod-lt, mul-assoc, mul-add-div-right, mul-add-mod-self-right}
+use native.Mathlib.Nat.{add-zero, sub-zero, zero-mul, add-mul, mul-comm, lt-of-lt-of-le, mod-eq-of-lt, mod-lt, mul-assoc, mul-add-div-right, mul-add-mod-self-right}
 use lib.ListN.{length, getD, take, drop}
 use lib.Seq.{getD-drop}
-use lib.Pow.{pow-pos, pow-add, high, mod-pow-add}
+use lib.Pow.{pow-pos, pow-add, pow-mono, high, mod-pow-add}
 use lib.Arith.{digits-lt}
 use lib.Dec.{lit<}
 use Rattle.rules.specs.Words.{part, num, be, numAt}
-use Rattle.laws.specs.Parts.{length-part}
+use Rattle.laws.specs.Parts.{length-part, left-part}
 
 -- bytes are below 256
 abbrev pub Bytes : List ℕ → Type 0
@@ -89,3 +89,47 @@ numAt-is m at n b h =
 -- what fits is read back
 pub num-be-fits : (n x : ℕ) → x < 2 ^ (8 * n) → num (be n x) ≡ x
 num-be-fits n x h = num-be n x ∙ mod-eq-of-lt h
+
+-- ---------------------------------------------------------------- a loop that reads a number, one byte a turn
+
+module _ (t : List ℕ) (at n k v : ℕ) where
+  -- what is read so far, moved up, with what is left to read
+  abbrev pub reading : ℕ
+  reading = v * 2 ^ (8 * (n - k)) + num (part (at + k) (n - k) t)
+
+pub read-start : (t : List ℕ) (at n : ℕ) → reading t at n 0 0 ≡ num (part at n t)
+read-start t at n = rw (add-zero, sub-zero) (omega (arith, zero-mul (2 ^ (8 * n))))
+
+pub read-small : (n k v : ℕ) → k < n → n ≤ 8 → v < 2 ^ (8 * k) → v < 2 ^ 56
+read-small n k v h m l = lt-of-lt-of-le l (pow-mono {j = 56} (omega arith))
+
+pub read-lt : (k v b : ℕ) → b < 256 → v < 2 ^ (8 * k) → v * 256 + b < 2 ^ (8 * (k + 1))
+read-lt k v b d l =
+    let e : 8 * (k + 1) ≡ 8 * k + 8 = omega arith in
+    let p : 2 ^ (8 * (k + 1)) ≡ 2 ^ (8 * k) * 256 = ap (λ (i : ℕ). 2 ^ i) e ∙ pow-add 2 (8 * k) 8 in
+    omega arith
+
+module _ (t : List ℕ) (at n k v : ℕ) (h : k < n) where
+  pub read-turn : {b r : ℕ} → at + n ≤ length t → b ≡ getD t (at + k) 0 → reading t at n k v ≡ r → reading t at n (k + 1) (v * 256 + b) ≡ r
+  unfolding num
+  read-turn {b} f g e =
+      let x = getD t (at + k) 0 in
+      let w = n - (k + 1) in
+      let q : 2 ^ (8 * w) * 256 ≡ 2 ^ (8 * (n - k)) = sym (pow-add 2 (8 * w) 8) ∙ ap (λ (i : ℕ). 2 ^ i) (omega arith) in
+      let l : length (part (at + (k + 1)) w t) ≡ w = length-part (at + (k + 1)) w t (omega arith) in
+      let s : (v * 256 + b) * 2 ^ (8 * w) ≡ v * 256 * 2 ^ (8 * w) + x * 2 ^ (8 * w) =
+          add-mul (v * 256) b (2 ^ (8 * w)) ∙ ap (λ (i : ℕ). v * 256 * 2 ^ (8 * w) + i * 2 ^ (8 * w)) g in
+      let m : v * 256 * 2 ^ (8 * w) ≡ v * 2 ^ (8 * (n - k)) = mul-assoc v 256 (2 ^ (8 * w)) ∙ ap (λ (i : ℕ). v * i) (mul-comm 256 (2 ^ (8 * w)) ∙ q) in
+      let c : num (part (at + k) (n - k) t) ≡ x * 2 ^ (8 * w) + num (part (at + (k + 1)) w t) =
+          ap num (left-part at n k t h f) ∙ ap (λ (i : ℕ). x * 2 ^ (8 * i) + num (part (at + (k + 1)) w t)) l in
+      omega arith
+
+pub read-end : (t : List ℕ) (at n k v : ℕ) → k ≤ n → n ≤ k → v < 2 ^ (8 * k) → reading t at n k v ≡ num (part at n t) → (v ≡ numAt t at n) × (v < 2 ^ (8 * n))
+unfolding num part
+read-end t at n k v a b l e =
+    let z : n - k ≡ 0 = omega arith in
+    let s : k ≡ n = omega arith in
+    let w : v < 2 ^ (8 * n) = rw s at l in
+    let r : v * 1 + 0 ≡ num (part at n t) = rw z at e in
+    let q : v ≡ num (part at n t) = omega arith in
+    (sym (ap (λ (i : ℕ). i % 2 ^ (8 * n)) (sym q) ∙ mod-eq-of-lt w), w)

@@ -172,3 +172,10 @@ left-own to from n k l h d f =
 pub splice-all : (e l : List ℕ) → length e ≡ length l → splice 0 e l ≡ e
 unfolding splice
 splice-all e l q = rw (zero-add, q, drop-length, append-nil)
+
+-- a part that is copied over all of a list
+pub copied : (at n : ℕ) (t d e : List ℕ) → at + n ≤ length t → length d ≡ n → e ≡ splice 0 (take (at + n - at) (drop at t)) d → e ≡ part at n t
+unfolding part
+copied at n t d e h q f =
+    let m : at + n - at ≡ n = omega arith in
+    f ∙ ap (λ (k : ℕ). splice 0 (take k (drop at t)) d) m ∙ splice-all (part at n t) d (length-part at n t h ∙ sym q)
