@@ -118,10 +118,10 @@ module _ (t : List ℕ) (at n k v : ℕ) (h : k < n) where
       let q : 2 ^ (8 * w) * 256 ≡ 2 ^ (8 * (n - k)) = sym (pow-add 2 (8 * w) 8) ∙ ap (λ (i : ℕ). 2 ^ i) (omega arith) in
       let l : length (part (at + (k + 1)) w t) ≡ w = length-part (at + (k + 1)) w t (omega arith) in
       let s : (v * 256 + b) * 2 ^ (8 * w) ≡ v * 256 * 2 ^ (8 * w) + x * 2 ^ (8 * w) =
-          add-mul (v * 256) b (2 ^ (8 * w)) ∙ ap (λ (i : ℕ). v * 256 * 2 ^ (8 * w) + i * 2 ^ (8 * w)) g in
+      add-mul (v * 256) b (2 ^ (8 * w)) ∙ ap (λ (i : ℕ). v * 256 * 2 ^ (8 * w) + i * 2 ^ (8 * w)) g in
       let m : v * 256 * 2 ^ (8 * w) ≡ v * 2 ^ (8 * (n - k)) = mul-assoc v 256 (2 ^ (8 * w)) ∙ ap (λ (i : ℕ). v * i) (mul-comm 256 (2 ^ (8 * w)) ∙ q) in
       let c : num (part (at + k) (n - k) t) ≡ x * 2 ^ (8 * w) + num (part (at + (k + 1)) w t) =
-          ap num (left-part at n k t h f) ∙ ap (λ (i : ℕ). x * 2 ^ (8 * i) + num (part (at + (k + 1)) w t)) l in
+      ap num (left-part at n k t h f) ∙ ap (λ (i : ℕ). x * 2 ^ (8 * i) + num (part (at + (k + 1)) w t)) l in
       omega arith
 
 pub read-end : (t : List ℕ) (at n k v : ℕ) → k ≤ n → n ≤ k → v < 2 ^ (8 * k) → reading t at n k v ≡ num (part at n t) → (v ≡ numAt t at n) × (v < 2 ^ (8 * n))

@@ -1,9 +1,9 @@
 -- What the box does: start, and handle a message as judge, then act.
---   binding, leaseFor, others, gone, freed   what an identity has, could get, is told of other prefixes; whether a Release frees
+--   binding, leaseFor, others, gone, isFreed   what an identity has, could get, is told of other prefixes; whether a Release frees
 --   Verdict, serve       what is said of one IA_PD; one IA_PD served, from records to records
 --   answerTo, act        the answer as a value; what a message does that isn't refused
 --   boxTests             the refusals in their order
---   boxStart, boxHandle, boxLive, boxRecord  the operations
+--   boxStart, boxHandle, boxLive   the operations
 use Prim.Native.Nat.{ℕ, _+_, _-_, _*_, _/_, _^_}
 use mathlib.Core.Bool.{Bool, true, false, cond, not, _&&_}
 use mathlib.Core.List.{List, [], _∷_, _++_, map}
@@ -15,7 +15,7 @@ use Rattle.rules.specs.Refusals.{Res, done, unless, badTime, littleRoom,
 use Rattle.rules.specs.Prefix.{Prefix, samePrefix, inside, last64, Lease, lease}
 use Rattle.rules.specs.Message.{Listed, Ia, Message, read, wellFormed, print}
 use Rattle.rules.specs.Clock.{Moment, Lifetime, forEver, plus, extended}
-use Rattle.rules.specs.Identity.{Duid, Identity, identity, served, kindOf, answerType, isRelease, isRebind, rowHolds}
+use Rattle.rules.specs.Identity.{Duid, Identity, identity, served, kindOf, answerType, isRelease, rowHolds}
 use Rattle.rules.specs.Settings.{Settings, goodSettings}
 use Rattle.rules.specs.Table.{Record, Table, isBinding, live, giveUp, current, sound}
 use Rattle.rules.specs.Choose.{choose}
@@ -66,8 +66,8 @@ sameExcept (some f) none = false
 sameExcept (some f) (some e) = samePrefix f e
 
 -- "some listed prefix equals its prefix and length, and every PD Exclude listed equals its excluded prefix"
-unfoldable pub freed : Record → List Listed → Bool
-freed r xs = any (λ x. samePrefix (x .lease .prefix) (r .lease .prefix)) xs && all (λ x. sameExcept (x .lease .except) (r .lease .except)) xs
+unfoldable pub isFreed : Record → List Listed → Bool
+isFreed r xs = any (λ x. samePrefix (x .lease .prefix) (r .lease .prefix)) xs && all (λ x. sameExcept (x .lease .except) (r .lease .except)) xs
 
 -- "Look at the first IA Prefix."
 abbrev pub hintOf : List Listed → Option Prefix
@@ -76,12 +76,14 @@ hintOf (x ∷ xs) = some (x .lease .prefix)
 
 -- ---------------------------------------------------------------- one IA_PD served
 
--- what is said: the bound or offered prefix with the others; prefixes returned; a status; nothing
+-- what is said: the bound or offered prefix with the others; prefixes returned; a status; nothing, as the Release succeeded;
+-- nothing at all
 pub data Verdict : Type 0 where
   offer : Lease → List Listed → Verdict
   return : List Listed → Verdict
   say : ℕ → Verdict
-  nothing : Verdict
+  success : Verdict
+  silence : Verdict
 
 abbrev pub noBinding : Verdict
 noBinding = say 3
@@ -114,7 +116,7 @@ module _ (s : Settings) (now : Moment) (q : Asked) (rs : List Record) where
   serveRequest none (some p) = leaves (bind (q .who) (leaseFor s (q .asks) p) (plus now (s .valid)) rs) (offer (leaseFor s (q .asks) p) [])
   serveRequest none none = leaves rs noPrefixAvail
 
-  -- "With a binding: extend; the binding's prefix comes first, then each listed one that differs. .. Renew without: IA_PD with NoBinding (3)."
+  -- "With a binding: extend; the binding's prefix comes first, then each listed one that differs from it .. Renew without: IA_PD with NoBinding (3)."
   abbrev pub serveRenew : Option Record → Served
   serveRenew (some r) = leaves (extend (q .who) now (s .valid) rs) (offer (r .lease) (others (r .lease .prefix) (q .listed)))
   serveRenew none = leaves rs noBinding
@@ -122,11 +124,11 @@ module _ (s : Settings) (now : Moment) (q : Asked) (rs : List Record) where
   -- "Rebind without: if .. every listed one fails to lie wholly inside the pool, all are returned with lifetimes 0; otherwise refusal 8."
   abbrev pub serveRebind : Option Record → Served
   serveRebind (some r) = serveRenew (some r)
-  serveRebind none = leaves rs (cond (gone s (q .listed)) (return (map returned (q .listed))) nothing)
+  serveRebind none = leaves rs (cond (gone s (q .listed)) (return (map returned (q .listed))) silence)
 
   -- "Freed exactly if there is a live binding, .. Otherwise NoBinding."
   abbrev pub serveRelease : Option Record → Served
-  serveRelease (some r) = cond (freed r (q .listed)) (leaves (giveUp (isBinding (q .who)) rs) nothing) (leaves rs noBinding)
+  serveRelease (some r) = cond (isFreed r (q .listed)) (leaves (giveUp (isBinding (q .who)) rs) success) (leaves rs noBinding)
   serveRelease none = leaves rs noBinding
 
   unfoldable pub serve : Kind → Served
@@ -154,7 +156,8 @@ abbrev pub iaFor : Settings → ℕ → Verdict → List Ia
 iaFor s i (offer l xs) = record { iaid = i; t1 = t1For (s .preferred); t2 = t2For (s .preferred); listed = offered s l ∷ xs; statuses = [] } ∷ []
 iaFor s i (return xs) = record { iaid = i; t1 = 0; t2 = 0; listed = xs; statuses = [] } ∷ []
 iaFor s i (say k) = record { iaid = i; t1 = 0; t2 = 0; listed = []; statuses = k ∷ [] } ∷ []
-iaFor s i nothing = []
+iaFor s i success = []
+iaFor s i silence = []
 
 -- "Type, the transaction number as received, Client ID, Server ID, then: for a Release, a Status Code Success (0),
 -- followed on failure by the IA_PD with NoBinding; else the IA_PD."
@@ -201,13 +204,13 @@ answerAfter t now v = answerTo (t .settings) v (saying t now v)
 abbrev pub wrongPds : Message → Bool
 wrongPds v = not (eqb (length (v .ias)) 1 && leb (length (iaOf v .listed)) 4)
 
--- 8 "a Rebind must be passed over in silence": there is no IA_PD to answer it with
-abbrev pub isSilent : List Ia → Bool
-isSilent [] = true
-isSilent (i ∷ is) = false
-
-abbrev pub silence : Table → Moment → Message → Bool
-silence t now v = isRebind (kindOf (v .kind)) && isSilent (saying t now v)
+-- 8 "a Rebind must be passed over in silence"
+abbrev pub isSilence : Verdict → Bool
+isSilence (offer l xs) = false
+isSilence (return xs) = false
+isSilence (say k) = false
+isSilence success = false
+isSilence silence = true
 
 abbrev pub boxTests : Table → Moment → List ℕ → Message → ℕ → List (ℕ × Bool)
 boxTests t now m v room =
@@ -219,7 +222,7 @@ boxTests t now m v room =
     ∷ (5, not (wellFormed m))
     ∷ (6, not (rowHolds (t .settings .own) v))
     ∷ (7, wrongPds v)
-    ∷ (8, silence t now v)
+    ∷ (8, isSilence (serving t now v .verdict))
     ∷ []
 
 -- ---------------------------------------------------------------- the operations
@@ -242,5 +245,8 @@ unfoldable pub boxHandle : Table → Moment → List ℕ → ℕ → Res (Table 
 boxHandle t now m room = boxRead t now m (read m) room
 
 -- how many records are live
+abbrev pub liveTests : Table → Moment → List (ℕ × Bool)
+liveTests t now = (9, not (sound t)) ∷ (1, badTime (t .last) now) ∷ []
+
 unfoldable pub boxLive : Table → Moment → Res ℕ
-boxLive t now = unless ((9, not (sound t)) ∷ (1, badTime (t .last) now) ∷ []) (done (length (keep (live now) (t .records))))
+boxLive t now = unless (liveTests t now) (done (length (keep (live now) (t .records))))

@@ -12,7 +12,8 @@ use Rattle.rules.specs.declared.Kind.the-variants.{Solicit, Request, Ren
 abbrev pub Duid : Type 0
 Duid = List ℕ
 
--- "An identity is a DUID of 3 to 130 bytes with a 32-bit IAID."
+-- "An identity is a DUID of 3 to 130 bytes with a 32-bit IAID." Bytes are numbers; those of a lent array are below 256, and no
+-- rule asks it again.
 pub record Identity : Type 0 where
   pub duid : Duid
   pub iaid : ℕ
@@ -61,16 +62,10 @@ isRelease Renew = false
 isRelease Rebind = false
 isRelease Release = true
 
-abbrev pub isRebind : Kind → Bool
-isRebind Solicit = false
-isRebind Request = false
-isRebind Renew = false
-isRebind Rebind = true
-isRebind Release = false
-
 -- ---------------------------------------------------------------- the rows
 
--- "One row of yes and no for each served kind", by its type: must one Client ID stand, must one Server ID
+-- "One row of yes and no for each served kind", by its type: must one Client ID stand, must one Server ID.
+-- The types between are not served, and their rows never read.
 unfoldable pub identityRows : List (Bool × Bool)
 identityRows =
     (false, false)

@@ -1,5 +1,5 @@
 -- The public readers and writers: a whole message, or one option that stands alone and fills its text.
-use Prim.Native.Nat.{ℕ, _+_, _-_}
+use Prim.Native.Nat.{ℕ, _+_, _-_, _^_}
 use mathlib.Core.Bool.{Bool, true, not, _&&_}
 use mathlib.Core.List.{List, [], _∷_, _++_}
 use lib.Dec.{eqb, leb, ltb}
@@ -94,16 +94,20 @@ unfoldable pub writeRequest : ℕ → Res (List ℕ)
 writeRequest room = write true 6 (be16 67) room
 
 unfoldable pub writeStatus : ℕ → ℕ → Res (List ℕ)
-writeStatus k room = write true 13 (be16 k ++ nameOf k) room
+writeStatus k room = write (ltb k 65536) 13 (be16 k ++ nameOf k) room
 
 unfoldable pub writeExclude : Prefix → Prefix → ℕ → Res (List ℕ)
 writeExclude p e room = write (encodable p e) 67 (excludeBytes (p .length) e) room
 
+-- each number fits its field
 abbrev pub listedEncodes : Listed → Bool
-listedEncodes x = leaseEncodable (x .lease .prefix) (x .lease .except)
+listedEncodes x = ltb (x .preferred) (2 ^ 32) && ltb (x .valid) (2 ^ 32) && leaseEncodable (x .lease .prefix) (x .lease .except) && all (λ k. ltb k 65536) (x .statuses)
+
+abbrev pub iaEncodes : Ia → Bool
+iaEncodes i = ltb (i .iaid) (2 ^ 32) && ltb (i .t1) (2 ^ 32) && ltb (i .t2) (2 ^ 32) && all listedEncodes (i .listed) && all (λ k. ltb k 65536) (i .statuses)
 
 unfoldable pub writePrefix : Listed → ℕ → Res (List ℕ)
 writePrefix x room = write (listedEncodes x) 26 (listedBytes x) room
 
 unfoldable pub writePd : Ia → ℕ → Res (List ℕ)
-writePd i room = write (all listedEncodes (i .listed)) 25 (iaBytes i) room
+writePd i room = write (iaEncodes i) 25 (iaBytes i) room

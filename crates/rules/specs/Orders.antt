@@ -3,12 +3,13 @@ use Prim.Native.Nat.{ℕ}
 use mathlib.Core.Path.{_≡_, refl}
 use mathlib.Core.Bool.{Bool}
 use mathlib.Core.List.{List, map}
-use Rattle.rules.specs.Refusals.{boxOrder, sendOrder, resendOrder, abandonOrder, receiveOrder, startOrder, readerOrder, writerOrder}
+use Rattle.rules.specs.Refusals.{boxOrder, sendOrder, resendOrder, abandonOrder, receiveOrder, startOrder, readerOrder, writerOrder, liveOrder, recordOrder, heldOrder}
 use Rattle.rules.specs.Message.{Message}
 use Rattle.rules.specs.Clock.{Moment}
 use Rattle.rules.specs.Lone.{readerTests, writerTests}
 use Rattle.rules.specs.Table.{Table}
-use Rattle.rules.specs.Box.{startTests, boxTests}
+use Rattle.rules.specs.Box.{startTests, boxTests, liveTests}
+use Rattle.rules.specs.Lent.{recordTests, heldTests}
 use Rattle.rules.specs.Router.{Router, sendTests, resendTests, abandonTests, receiveTests}
 use Rattle.rules.specs.declared.Kind.{Kind}
 
@@ -24,4 +25,7 @@ pub orders : (T : Table) (r : Router) (k : Kind) (now : Moment) (m : List ℕ) (
     × (numbers (startTests b now) ≡ startOrder)
     × (numbers (readerTests m b) ≡ readerOrder)
     × (numbers (writerTests b m room) ≡ writerOrder)
-orders T r k now m v room b = (refl, refl, refl, refl, refl, refl, refl, refl)
+    × (numbers (liveTests T now) ≡ liveOrder)
+    × (numbers (recordTests T room) ≡ recordOrder)
+    × (numbers (heldTests r now room) ≡ heldOrder)
+orders T r k now m v room b = (refl, refl, refl, refl, refl, refl, refl, refl, refl, refl, refl)

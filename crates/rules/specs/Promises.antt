@@ -15,7 +15,7 @@ use Rattle.rules.specs.Table.{Record, Table, current, mostRecords, sound
 use Rattle.rules.specs.Choose.{free}
 use Rattle.rules.specs.Box.{binding, askedBy, boxHandle}
 use Rattle.rules.specs.Router.{Router, Hold, noPrefix}
-use Rattle.rules.specs.World.{Alive, Sent, Run}
+use Rattle.rules.specs.World.{Box, Alive, Sent, Run}
 use Rattle.rules.specs.declared.Kind.{Kind}
 use Rattle.rules.specs.declared.Kind.the-variants.{Solicit, Request}
 
@@ -56,9 +56,11 @@ ExactlyWhen =
 -- ---------------------------------------------------------------- demand 3
 
 -- the prefix is bound to the identity, with the same excluded prefix, until at least that moment
-pub record Bound (T : Table) (i : Identity) (h : Hold) : Type 0 where
+pub record Bound (B : Box) (i : Identity) (h : Hold) : Type 0 where
+  pub table : Table
+  pub started : B ≡ some table
   pub record-of : Record
-  pub stands : List·Memᴰ record-of (T .records)
+  pub stands : List·Memᴰ record-of (table .records)
   pub owned : record-of .owner ≡ i
   pub same : record-of .lease ≡ h .lease
   pub lasts : h .end ≤ record-of .end
@@ -67,13 +69,13 @@ pub record Bound (T : Table) (i : Identity) (h : Hold) : Type 0 where
 -- same excluded prefix, until at least the moment the router stops."
 abbrev pub Demand3 : Type 0
 Demand3 =
-    (n : Moment) (T : Table) (A : Alive) (S : Sent) → Run n T A S
-    → (i : Identity) (r : Router) (h : Hold) → A i ≡ some r → r .held ≡ some h → n < h .end → Bound T i h
+    (n : Moment) (B : Box) (A : Alive) (S : Sent) → Run n B A S
+    → (i : Identity) (r : Router) (h : Hold) → A i ≡ some r → r .held ≡ some h → n < h .end → Bound B i h
 
 -- "So no two routers hold overlapping prefixes."
 abbrev pub Apart : Type 0
 Apart =
-    (n : Moment) (T : Table) (A : Alive) (S : Sent) → Run n T A S
+    (n : Moment) (B : Box) (A : Alive) (S : Sent) → Run n B A S
     → (i j : Identity) (q r : Router) (g h : Hold) → (i ≡ j → ⊥)
     → A i ≡ some q → q .held ≡ some g → n < g .end
     → A j ≡ some r → r .held ≡ some h → n < h .end

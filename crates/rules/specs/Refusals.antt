@@ -56,3 +56,13 @@ readerOrder = 3 ∷ 5 ∷ []
 -- "writers give 2 where the lent room is shorter than the text, after 5 for values that have no encoding."
 abbrev pub writerOrder : List ℕ
 writerOrder = 5 ∷ 2 ∷ []
+
+-- the questions that change nothing, which document 01 doesn't name: live records, a record, what is held
+abbrev pub liveOrder : List ℕ
+liveOrder = 9 ∷ 1 ∷ []
+
+abbrev pub recordOrder : List ℕ
+recordOrder = 9 ∷ 2 ∷ []
+
+abbrev pub heldOrder : List ℕ
+heldOrder = 9 ∷ 1 ∷ 2 ∷ []

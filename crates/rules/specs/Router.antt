@@ -2,7 +2,7 @@
 --   Router, Hold, Exchange   a router's state; the prefix it holds, with its end; the open exchange
 --   soundRouter              when a state is sound
 --   query                    the message of the open exchange
---   begin, again             a new exchange; the open one sent again
+--   begun, again             a new exchange; the open one sent again
 --   awaited, accept          the message awaited; what its acceptance leaves
 --   routerStart, routerSend, routerResend, routerAbandon, routerReceive   the operations
 use Prim.Native.Nat.{ℕ, _+_, _-_, _%_, _^_}
@@ -157,12 +157,12 @@ allows Rebind r now = isHeld (holds now (r .held))
 allows Release r now = isHeld (holds now (r .held))
 
 -- the prefix that an exchange of that kind sends
-abbrev pub sends : Kind → Option Lease → Option Lease
-sends Solicit l = none
-sends Request l = none
-sends Renew l = l
-sends Rebind l = l
-sends Release l = l
+abbrev pub carries : Kind → Option Lease → Option Lease
+carries Solicit l = none
+carries Request l = none
+carries Renew l = l
+carries Rebind l = l
+carries Release l = l
 
 -- 12: "while 60 seconds or fewer have passed since the start, since the last sending of a Release, or in the same second as the previous exchange began"
 abbrev pub tooSoon : Router → Moment → Bool
@@ -173,11 +173,11 @@ isOpen none = false
 isOpen (some x) = true
 
 abbrev pub exchangeFor : Kind → Router → Moment → Exchange
-exchangeFor k r now = record { kind = k; sent = sends k (holds now (r .held)) }
+exchangeFor k r now = record { kind = k; sent = carries k (holds now (r .held)) }
 
 -- a new exchange; "A Release drops the prefix when first sent."
-unfoldable pub begin : Kind → Router → Moment → Router
-begin k r now = record {
+unfoldable pub begun : Kind → Router → Moment → Router
+begun k r now = record {
   me = r .me;
   wanted = r .wanted;
   started = r .started;
@@ -318,7 +318,7 @@ abbrev pub withQuery : Router → Exchange → Router × List ℕ
 withQuery r x = (r, print (query r x))
 
 unfoldable pub routerSend : Kind → Router → Moment → ℕ → Res (Router × List ℕ)
-routerSend k r now room = unless (sendTests k r now room) (done (withQuery (begin k r now) (exchangeFor k r now)))
+routerSend k r now room = unless (sendTests k r now room) (done (withQuery (begun k r now) (exchangeFor k r now)))
 
 -- "With nothing open both give 13."
 abbrev pub resendTests : Router → Moment → ℕ → List (ℕ × Bool)

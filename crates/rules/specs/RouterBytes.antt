@@ -13,7 +13,7 @@ use lib.ListN.{length, replicate}
 use Rattle.rules.specs.Words.{part, sameBytes, filled, be, numAt}
 use Rattle.rules.specs.Prefix.{Prefix, prefix, Lease, lease}
 use Rattle.rules.specs.Identity.{Duid, identity, kindOf, typeOf}
-use Rattle.rules.specs.Router.{Hold, Exchange, Router, soundRouter, sends}
+use Rattle.rules.specs.Router.{Hold, Exchange, Router, soundRouter, carries}
 use Rattle.rules.specs.declared.Kind.{Kind}
 
 abbrev pub routerSize : ℕ
@@ -79,7 +79,7 @@ abbrev pub duidAt : List ℕ → ℕ → Duid
 duidAt b at = part (at + 1) (numAt b at 1) b
 
 abbrev pub exchangeOf : Kind → Lease → Exchange
-exchangeOf k l = record { kind = k; sent = sends k (some l) }
+exchangeOf k l = record { kind = k; sent = carries k (some l) }
 
 unfoldable pub routerOf : List ℕ → Router
 routerOf b = record {

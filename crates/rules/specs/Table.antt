@@ -31,6 +31,8 @@ mostRecords = 256
 
 -- ---------------------------------------------------------------- what a record means
 
+-- Four words that say it in one place each; everything else goes by them.
+
 -- the record is a binding of that identity
 abbrev pub isBinding : Identity → Record → Bool
 isBinding i r = sameIdentity (r .owner) i
