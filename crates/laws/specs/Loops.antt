@@ -5,7 +5,7 @@
 use mathlib.Core.Path.{_≡_, refl, sym, ap, _∙_}
 use mathlib.Core.Bool.{Bool, true, false, cond, not, _&&_}
 use mathlib.Core.List.{List, [], _∷_, _++_, map}
-use mathlib.Core.Option.{Option, none, some}
+use mathlib.Core.Option.{Option, none, some, Option·none-ne-some, Option·some-ne-none}
 use Prim.Native.Nat.{ℕ, zero, suc, _+_, _-_, _≤_, _<_}
 use native.Mathlib.Omega.{arith}
 use lib.Dec.{eqb}
@@ -169,6 +169,42 @@ module _ {A : Type 0} where
       let q = both (r y x) (all (λ z. r z x) l) h in
       rw (all-last (r y) l x (p .0) (q .0)) (two-last r l x (p .1) (q .1))
 
+-- ---------------------------------------------------------------- the first, and all
+
+module _ {A : Type 0} where
+  pub first-none : (f : A → Bool) (l : List A) → first f l ≡ none → all (λ x. not (f x)) l ≡ true
+  first-none f [] e = refl
+  first-none f (x ∷ l) e = by (f x) refl e (first-none f l)
+    where
+      by : (b : Bool) → f x ≡ b → cond b (some x) (first f l) ≡ none → (first f l ≡ none → all (λ y. not (f y)) l ≡ true) → not (f x) && all (λ y. not (f y)) l ≡ true
+      by true q e r = absurd (Option·some-ne-none x e)
+      by false q e r = rw q (r e)
+
+  -- what holds of all and of the first that passes
+  pub first-all : (f g : A → Bool) (l : List A) {x : A} → first f l ≡ some x → all g l ≡ true → (f x ≡ true) × (g x ≡ true)
+  first-all f g [] {x} e h = absurd (Option·none-ne-some x e)
+  first-all f g (y ∷ l) {x} e h = let p = both (g y) (all g l) h in by (f y) refl e (λ q. first-all f g l q (p .1)) (p .0)
+    where
+      by : (b : Bool) → f y ≡ b → cond b (some y) (first f l) ≡ some x → (first f l ≡ some x → (f x ≡ true) × (g x ≡ true)) → g y ≡ true → (f x ≡ true) × (g x ≡ true)
+      by true q e r k = let w : y ≡ x = cc in (rw (← w) q, rw (← w) k)
+      by false q e r k = r e
+
+  pub all-same : (f g : A → Bool) → ((x : A) → f x ≡ g x) → (l : List A) → all f l ≡ all g l
+  all-same f g h [] = refl
+  all-same f g h (x ∷ l) = rw (h x, all-same f g h l)
+
+  pub all-both : (f g : A → Bool) (l : List A) → all f l ≡ true → all g l ≡ true → all (λ x. f x && g x) l ≡ true
+  all-both f g [] a b = refl
+  all-both f g (x ∷ l) a b =
+      let p = both (f x) (all f l) a in
+      let q = both (g x) (all g l) b in
+      rw (p .0, q .0) (all-both f g l (p .1) (q .1))
+
+  -- one test for all follows from another
+  pub all-sub : (f g : A → Bool) → ((x : A) → f x ≡ true → g x ≡ true) → (l : List A) → all f l ≡ true → all g l ≡ true
+  all-sub f g h [] e = refl
+  all-sub f g h (x ∷ l) e = let p = both (f x) (all f l) e in rw (h x (p .0)) (all-sub f g h l (p .1))
+
 -- what a map leaves passes where what it was made of does
 module _ {A B : Type 0} (f : B → Bool) (h : A → B) where
   pub all-map : (l : List A) → all f (map h l) ≡ all (λ x. f (h x)) l
@@ -182,6 +218,11 @@ module _ {A B : Type 0} (f : B → Bool) (h : A → B) where
       by : (b : Bool) → keep f (map h l) ≡ map h (keep (λ y. f (h y)) l) → consIf b (h x) (keep f (map h l)) ≡ map h (consIf b x (keep (λ y. f (h y)) l))
       by true e = rw e
       by false e = e
+
+-- a map that no pair feels
+pub two-map : {A B : Type 0} (r : B → B → Bool) (q : A → A → Bool) (h : A → B) → ((x y : A) → r (h x) (h y) ≡ q x y) → (l : List A) → noTwo r (map h l) ≡ noTwo q l
+two-map r q h e [] = refl
+two-map r q h e (x ∷ l) = rw (all-map (r (h x)) h l, all-same (λ y. r (h x) (h y)) (q x) (e x) l, two-map r q h e l)
 
 -- ---------------------------------------------------------------- over the bytes of a part
 

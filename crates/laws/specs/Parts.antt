@@ -107,6 +107,11 @@ module _ {A : Type 0} where
   unfolding part
   part-part a n i w l h = part-of-take a n w (drop i l) h ∙ ap (take n) (drop-drop a i l)
 
+  -- what is left of a part
+  pub drop-part : (n w i : ℕ) (l : List A) → drop n (part i w l) ≡ part (i + n) (w - n) l
+  unfolding part
+  drop-part n w i l = drop-take n w (drop i l) ∙ ap (take (w - n)) (drop-drop n i l)
+
   -- a part past the first of two lists, and the first
   pub part-past : (k a n : ℕ) (d e : List A) → length d ≡ k → part (k + a) n (d ++ e) ≡ part a n e
   unfolding part

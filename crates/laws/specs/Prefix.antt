@@ -11,8 +11,8 @@ use native.Mathlib.Nat.{mul-assoc, mul-mod-left, mod-lt, add-mul, one-mul, div-l
 use native.Mathlib.Omega.{arith}
 use lib.Dec.{eqb, leb, ltb}
 use lib.Pow.{pow-pos, pow-add, shr-shr, shl-shr, mod-pow-add}
-use borrow.Author.Tests.{eq-eqb, ne-eqb, eqb-true, eqb-false, leb-true, leb-false, ltb-true, ltb-false}
-use Rattle.rules.specs.Prefix.{Prefix, prefix, size, front, zeroAfter, overlap, inside, lastOf, nextPlace}
+use borrow.Author.Tests.{eq-eqb, eqb-true, leb-true, leb-false, le-leb, ltb-true, ltb-false}
+use Rattle.rules.specs.Prefix.{Prefix, prefix, size, front, zeroAfter, fits, samePrefix, overlap, inside, lastOf, nextPlace}
 use Rattle.laws.specs.Tests.{both, both-made, same-test}
 
 -- ---------------------------------------------------------------- sizes
@@ -23,23 +23,26 @@ size-split a b h =
     let e : (128 - a) - (128 - b) + (128 - b) ≡ 128 - a = omega arith in
     sym (ap (λ (x : ℕ). 2 ^ x) e) ∙ pow-add 2 ((128 - a) - (128 - b)) (128 - b)
 
-whole : (p s : ℕ) → p % s ≡ 0 → p / s * s ≡ p
+pub whole : (p s : ℕ) → p % s ≡ 0 → p / s * s ≡ p
 whole p s z = let d = div-add-mod' p s in omega arith
 
 one-more : (n s : ℕ) → (n + 1) * s ≡ n * s + s
 one-more n s = add-mul n 1 s ∙ ap (λ (x : ℕ). n * s + x) (one-mul s)
 
-finer : (p a b : ℕ) → a ≤ b → p % size a ≡ 0 → p % size b ≡ 0
+pub finer : (p a b : ℕ) → a ≤ b → p % size a ≡ 0 → p % size b ≡ 0
 finer p a b h z =
     let k = 2 ^ ((128 - a) - (128 - b)) in
     let e : p ≡ p / size a * k * size b = sym (whole p (size a) z) ∙ ap (λ (s : ℕ). p / size a * s) (size-split a b h) ∙ sym (mul-assoc (p / size a) k (size b)) in
     rw e (mul-mod-left (p / size a * k) (size b))
 
--- the first bits of the first bits
-pub front-front : (p a b : ℕ) → a ≤ b → b ≤ 128 → front p a ≡ front p b / 2 ^ (b - a)
-front-front p a b h l =
-    let e : 128 - a ≡ 128 - b + (b - a) = omega arith in
-    ap (λ (k : ℕ). p / 2 ^ k) e ∙ sym (shr-shr p (128 - b) (b - a))
+-- what has the same first bits has the same fewer first bits
+pub front-coarser : (p q a b : ℕ) → a ≤ b → front p b ≡ front q b → front p a ≡ front q a
+front-coarser p q a b h e = first p ∙ ap (λ (n : ℕ). n / 2 ^ ((128 - a) - (128 - b))) e ∙ sym (first q)
+  where
+    first : (x : ℕ) → x / size a ≡ x / size b / 2 ^ ((128 - a) - (128 - b))
+    first x =
+        let e : 128 - a ≡ 128 - b + ((128 - a) - (128 - b)) = omega arith in
+        ap (λ (k : ℕ). x / 2 ^ k) e ∙ sym (shr-shr x (128 - b) ((128 - a) - (128 - b)))
 
 -- ---------------------------------------------------------------- prefixes as intervals
 
@@ -120,6 +123,42 @@ inside-overlap p q e =
     let b = both (leb (q .length) (p .length)) (eqb (front (p .bits) (q .length)) (front (q .bits) (q .length))) e in
     let le = leb-true (q .length) (p .length) (b .0) in
     rw (min-eq-right le) (b .1)
+
+-- what lies inside a prefix of 128 bits has 128 bits
+pub inside-fits : (p q : Prefix) → fits q ≡ true → inside p q ≡ true → p .bits < 2 ^ 128
+unfolding inside
+inside-fits p q f e =
+    let b = both (leb (q .length) (p .length)) (eqb (front (p .bits) (q .length)) (front (q .bits) (q .length))) e in
+    let g = both (leb (q .length) 128) (ltb (q .bits) (2 ^ 128)) f in
+    let n = leb-true (q .length) 128 (g .0) in
+    let k : 128 ≡ q .length + (128 - q .length) = omega arith in
+    let w : 2 ^ 128 ≡ 2 ^ q .length * size (q .length) = ap (λ (i : ℕ). 2 ^ i) k ∙ pow-add 2 (q .length) (128 - q .length) in
+    let l : q .bits < 2 ^ q .length * size (q .length) = subst (λ (i : ℕ). q .bits < i) w (ltb-true _ _ (g .1)) in
+    let h : front (q .bits) (q .length) < 2 ^ q .length = div-lt-iff-lt-mul (pow-pos (128 - q .length)) .1 l in
+    let m : front (p .bits) (q .length) < 2 ^ q .length = subst (λ (i : ℕ). i < 2 ^ q .length) (sym (eqb-true _ _ (b .1))) h in
+    subst (λ (i : ℕ). p .bits < i) (sym w) (div-lt-iff-lt-mul (pow-pos (128 - q .length)) .0 m)
+
+pub same-prefix : (p q : Prefix) → samePrefix p q ≡ true → p ≡ q
+same-prefix p q e =
+    let b = both (eqb (p .length) (q .length)) (eqb (p .bits) (q .bits)) e in
+    let l = eqb-true _ _ (b .0) in
+    let t = eqb-true _ _ (b .1) in
+    λ i. record { bits = t i; length = l i }
+
+-- what overlaps a part of a prefix overlaps the prefix
+pub overlap-wider : (r p : Prefix) (b : ℕ) → p .length ≤ b → overlap r (prefix (p .bits) b) ≡ true → overlap r p ≡ true
+unfolding overlap
+overlap-wider r p b h e =
+    let m : min (r .length) (p .length) ≤ min (r .length) b = omega arith in
+    eq-eqb _ _ (front-coarser (r .bits) (p .bits) (min (r .length) (p .length)) (min (r .length) b) m (eqb-true _ _ e))
+
+-- a longer prefix at the same bits lies where the shorter does
+pub inside-longer : (p q : Prefix) (b : ℕ) → p .length ≤ b → inside p q ≡ true → inside (prefix (p .bits) b) q ≡ true
+unfolding inside
+inside-longer p q b h e =
+    let t = both (leb (q .length) (p .length)) (eqb (front (p .bits) (q .length)) (front (q .bits) (q .length))) e in
+    let le = leb-true (q .length) (p .length) (t .0) in
+    both-made (le-leb (q .length) b (omega arith)) (t .1)
 
 -- ---------------------------------------------------------------- the next place
 

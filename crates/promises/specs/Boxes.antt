@@ -1,0 +1,432 @@
+-- What the box tells: a message that it serves meets what Readings says of it.
+use Prim.Native.Nat.{ℕ, suc, _+_, _-_, _*_, _/_, _≤_, _<_, _%_, _^_, max}
+use mathlib.Core.Path.{_≡_, refl, sym, _∙_, ap, subst}
+use mathlib.Core.Bool.{Bool, true, false, cond, not, _&&_, _||_, true≢false, false≢true}
+use mathlib.Core.List.{List, [], _∷_, _++_, map, List·Memᴰ, List·Memᴰ·head, List·Memᴰ·tail, List·Memᴰ·cases-cons, Memᴰ·append-left, Memᴰ·append-right}
+use mathlib.Core.Logic.{_⊎_, inl, inr}
+use mathlib.Core.Option.{Option, none, some, Option·none-ne-some}
+use native.Mathlib.Omega.{arith}
+use lib.Dec.{eqb, leb, ltb}
+use lib.ListN.{length, getD}
+use lib.Pow.{pow-pos}
+use borrow.Author.Tests.{eqb-true, eqb-false, leb-true, leb-false, le-leb, ltb-true, ltb-false, lt-ltb, not-true, not-false}
+use Rattle.rules.specs.Words.{all, any, keep, first, consIf}
+use Rattle.rules.specs.Refusals.{Res, done}
+use Rattle.rules.specs.Prefix.{Prefix, Lease, lease, leaseEncodable, fits, zeroAfter, samePrefix, last64}
+use Rattle.rules.specs.Message.{Listed, Ia, Message, read, wellFormed, print}
+use Rattle.rules.specs.Clock.{Moment, Lifetime, forEver, never, plus, extended}
+use Rattle.rules.specs.Identity.{Identity, identity, goodIdentity, kindOf, typeOf, answerType, served, isRelease}
+use Rattle.rules.specs.Settings.{Settings}
+use Rattle.rules.specs.Table.{Record, Table, isBinding, live, giveUp, current, goodExcept, goodRecord, sound}
+use Rattle.rules.specs.Choose.{choose}
+use Rattle.rules.specs.Box.{binding, leaseFor, bind, longer, extend, returned, others, gone, isFreed, hintOf, Verdict, offer, return, say, success, silence, noBinding, noPrefixAvail, Served as Outcome, leaves, Asked, serveSolicit, serveRequest, serveRenew, serveRebind, serveRelease, serve, t1For, t2For, offered, iaFor, answerTo, clientOf, iaOf, askedBy, serving, saying, tableAfter, answerAfter, boxAnswer, boxHandle}
+use Rattle.rules.specs.Router.{takes}
+use Rattle.rules.specs.World.{Box}
+use Rattle.rules.specs.Promises.{Bound}
+use Rattle.rules.specs.declared.Kind.{Kind}
+use Rattle.rules.specs.declared.Kind.the-variants.{Solicit, Request, Renew, Rebind, Release}
+use Rattle.laws.specs.Tests.{both, both-made, false-true}
+use Rattle.laws.specs.Loops.{first-all}
+use Rattle.laws.specs.Prefix.{same-prefix, inside-fits}
+use Rattle.laws.specs.Every.{Every}
+use Rattle.laws.specs.Unpack.{last64-encodable}
+use Rattle.laws.specs.Round.{FineListed, FineIa, print-read}
+use Rattle.laws.specs.Told.{read-fine, ia-of-fine, others-fine, all-returned-fine, answer-fine}
+use Rattle.laws.specs.Choose.{choose-chosen}
+use Rattle.laws.specs.Refusals.{two}
+use Rattle.laws.specs.Kinds.{answer-unserved, identity-path, identity-true}
+use Rattle.laws.specs.Sound.{Good, good-facts, sound-facts, record-facts, give-up, touched, fresh, fresh-good, Fine}
+use Rattle.promises.specs.Readings.{Up, Down, hold, Binds, Served}
+use Rattle.promises.specs.Stays.{Accepted, accepted, asked-iaid, asker-good, fine-records, sound-after}
+
+-- ---------------------------------------------------------------- records that stay
+
+abbrev Mem : Record → List Record → Type 0
+Mem = List·Memᴰ
+
+-- the same record, with an end that is no earlier
+record Later (ρ σ : Record) : Type 0 where
+  owner-same : σ .owner ≡ ρ .owner
+  lease-same : σ .lease ≡ ρ .lease
+  end-up : ρ .end ≤ σ .end
+
+same : (ρ : Record) → Later ρ ρ
+same ρ = record { owner-same = refl; lease-same = refl; end-up = omega arith }
+
+keep-mem : (f : Record → Bool) {ρ : Record} (l : List Record) → f ρ ≡ true → Mem ρ l → Mem ρ (keep f l)
+keep-mem f [] g h = elim h [ ]
+keep-mem f {ρ} (a ∷ l) g h = by (f a) refl (List·Memᴰ·cases-cons h) (keep-mem f l g)
+  where
+    by : (b : Bool) → f a ≡ b → (ρ ≡ a) ⊎ Mem ρ l → (Mem ρ l → Mem ρ (keep f l)) → Mem ρ (consIf b a (keep f l))
+    by true q (inl e) r = List·Memᴰ·head e
+    by true q (inr k) r = List·Memᴰ·tail (r k)
+    by false q (inl e) r = absurd (false-true (sym q ∙ ap f (sym e) ∙ g))
+    by false q (inr k) r = r k
+
+give-up-mem : (f : Record → Bool) {ρ : Record} (l : List Record) → f ρ ≡ false → Mem ρ l → Mem ρ (giveUp f l)
+give-up-mem f l g h = rw (give-up f l) (keep-mem (λ r. not (f r)) l (ap not g) h)
+
+first-mem : (f : Record → Bool) {ρ : Record} (l : List Record) → first f l ≡ some ρ → Mem ρ l × (f ρ ≡ true)
+first-mem f {ρ} [] e = absurd (Option·none-ne-some ρ e)
+first-mem f {ρ} (a ∷ l) e = by (f a) refl e (first-mem f l)
+  where
+    by : (b : Bool) → f a ≡ b → cond b (some a) (first f l) ≡ some ρ → (first f l ≡ some ρ → Mem ρ l × (f ρ ≡ true)) → Mem ρ (a ∷ l) × (f ρ ≡ true)
+    by true q e r = let w : a ≡ ρ = cc in (List·Memᴰ·head (sym w), rw (← w) q)
+    by false q e r = let z = r e in (List·Memᴰ·tail (z .0), z .1)
+
+map-mem : (g : Record → Record) {ρ : Record} (l : List Record) → Mem ρ l → Mem (g ρ) (map g l)
+map-mem g [] h = elim h [ ]
+map-mem g {ρ} (a ∷ l) h = by (List·Memᴰ·cases-cons h) (map-mem g l)
+  where
+    by : (ρ ≡ a) ⊎ Mem ρ l → (Mem ρ l → Mem (g ρ) (map g l)) → Mem (g ρ) (g a ∷ map g l)
+    by (inl e) r = List·Memᴰ·head (ap g e)
+    by (inr k) r = List·Memᴰ·tail (r k)
+
+module _ (s : Settings) (i : Identity) (now : Moment) (v : Lifetime) where
+  touched-later : (ρ : Record) → Later ρ (touched s i now v ρ)
+  touched-later ρ = by (isBinding i ρ)
+    where
+      by : (b : Bool) → Later ρ (cond b (longer now v ρ) ρ)
+      by true = record { owner-same = refl; lease-same = refl; end-up = omega arith }
+      by false = same ρ
+
+  touched-up : (ρ : Record) → isBinding i ρ ≡ true → plus now v ≤ touched s i now v ρ .end
+  touched-up ρ q = rw q (omega arith)
+
+-- ---------------------------------------------------------------- one IA_PD served
+
+abbrev isSolicit : Kind → Bool
+isSolicit Solicit = true
+isSolicit Request = false
+isSolicit Renew = false
+isSolicit Rebind = false
+isSolicit Release = false
+
+record Acts (s : Settings) (now : Moment) (q : Asked) (rs : List Record) (k : Kind) (o : Outcome) : Type 0 where
+  kept : (ρ : Record) → Mem ρ rs → (isBinding (q .who) ρ ≡ false) ⊎ (isRelease k ≡ false) → (σ : Record) × Mem σ (o .records) × Later ρ σ
+  gave : (c : Lease) (xs : List Listed) → o .verdict ≡ offer c xs → isSolicit k ≡ false
+      → (σ : Record) × Mem σ (o .records) × (σ .owner ≡ q .who) × (σ .lease ≡ c) × (plus now (s .valid) ≤ σ .end)
+
+module _ (s : Settings) (now : Moment) (q : Asked) (rs : List Record) where
+  idle : (k : Kind) (v : Verdict) → ((c : Lease) (xs : List Listed) → v ≡ offer c xs → isSolicit k ≡ false → ⊥) → Acts s now q rs k (leaves rs v)
+  idle k v f = record { kept = λ ρ h z. (ρ, h, same ρ); gave = λ c xs e z. absurd (f c xs e z) }
+
+  says : (k : Kind) (n : ℕ) → Acts s now q rs k (leaves rs (say n))
+  says k n = idle k (say n) (λ c xs e z. let w : _≡_ {A = ℕ} 0 1 = cc in omega arith)
+
+  extends : (k : Kind) (r : Record) (zs : List Listed) → binding (q .who) rs ≡ some r → Acts s now q rs k (leaves (extend (q .who) now (s .valid) rs) (offer (r .lease) zs))
+  unfolding extend
+  extends k r zs b = record {
+    kept = λ ρ h z. (touched s (q .who) now (s .valid) ρ, map-mem (touched s (q .who) now (s .valid)) rs h, touched-later s (q .who) now (s .valid) ρ);
+    gave = λ c xs e z.
+        let f = first-mem (isBinding (q .who)) rs b in
+        let t = touched-later s (q .who) now (s .valid) r in
+        let w : r .lease ≡ c = cc in (
+          touched s (q .who) now (s .valid) r,
+          map-mem (touched s (q .who) now (s .valid)) rs (f .0),
+          t .owner-same ∙ identity-true _ _ (f .1),
+          t .lease-same ∙ w,
+          touched-up s (q .who) now (s .valid) r (f .1),
+        );
+  }
+
+  binds : (p : Prefix) → Acts s now q rs Request (leaves (bind (q .who) (leaseFor s (q .asks) p) (plus now (s .valid)) rs) (offer (leaseFor s (q .asks) p) []))
+  binds p = record {
+    kept = λ ρ h z. (ρ, Memᴰ·append-left _ h, same ρ);
+    gave = λ c xs e z. let w : leaseFor s (q .asks) p ≡ c = cc in (_, Memᴰ·append-right rs (List·Memᴰ·head refl), refl, w, omega arith);
+  }
+
+  solicits : (f : Option Record) (c : Option Prefix) → Acts s now q rs Solicit (serveSolicit s now q rs f c)
+  solicits (some r) c = idle Solicit (offer (r .lease) []) (λ c xs e z. true≢false z)
+  solicits none (some p) = idle Solicit _ (λ c xs e z. true≢false z)
+  solicits none none = says Solicit 6
+
+  requests : (f : Option Record) (c : Option Prefix) → binding (q .who) rs ≡ f → Acts s now q rs Request (serveRequest s now q rs f c)
+  requests (some r) c b = extends Request r [] b
+  requests none (some p) b = binds p
+  requests none none b = says Request 6
+
+  renews : (k : Kind) (f : Option Record) → binding (q .who) rs ≡ f → Acts s now q rs k (serveRenew s now q rs f)
+  renews k (some r) b = extends k r _ b
+  renews k none b = says k 3
+
+  rebinds : (f : Option Record) → binding (q .who) rs ≡ f → Acts s now q rs Rebind (serveRebind s now q rs f)
+  rebinds (some r) b = extends Rebind r _ b
+  rebinds none b = by (gone s (q .listed))
+    where
+      by : (b : Bool) → Acts s now q rs Rebind (leaves rs (cond b (return (map returned (q .listed))) silence))
+      by true = idle Rebind _ (λ c xs e z. let w : _≡_ {A = ℕ} 0 1 = cc in omega arith)
+      by false = idle Rebind _ (λ c xs e z. let w : _≡_ {A = ℕ} 0 1 = cc in omega arith)
+
+  releases : (f : Option Record) → Acts s now q rs Release (serveRelease s now q rs f)
+  releases none = says Release 3
+  releases (some r) = by (isFreed r (q .listed))
+    where
+      by : (b : Bool) → Acts s now q rs Release (cond b (leaves (giveUp (isBinding (q .who)) rs) success) (leaves rs noBinding))
+      by true = record {
+        kept = λ ρ h z. elim z [ inl d ↦ (ρ, give-up-mem (isBinding (q .who)) rs d h, same ρ) | inr d ↦ absurd (true≢false d) ];
+        gave = λ c xs e z. let w : _≡_ {A = ℕ} 0 1 = cc in absurd (omega arith);
+      }
+      by false = says Release 3
+
+  acts : (k : Kind) → Acts s now q rs k (serve s now q rs k)
+  unfolding serve
+  acts Solicit = solicits (binding (q .who) rs) (choose s rs (hintOf (q .listed)))
+  acts Request = requests (binding (q .who) rs) (choose s rs (hintOf (q .listed))) refl
+  acts Renew = renews Renew (binding (q .who) rs) refl
+  acts Rebind = rebinds (binding (q .who) rs) refl
+  acts Release = releases (binding (q .who) rs)
+
+-- ---------------------------------------------------------------- what is said is fine
+
+-- a good record's lease has an encoding
+pub lease-good : (s : Settings) (r : Record) → fits (s .pool) ≡ true → goodRecord s r ≡ true → leaseEncodable (r .lease .prefix) (r .lease .except) ≡ true
+lease-good s r f g =
+    let h = record-facts s r g in
+    let b = inside-fits (r .lease .prefix) (s .pool) f (h .in-pool) in
+    let t : fits (r .lease .prefix) ≡ true = both-made (le-leb (r .lease .prefix .length) 128 (omega (arith, h .most))) (lt-ltb (r .lease .prefix .bits) (2 ^ 128) b) in
+    by (r .lease .prefix) (r .lease .except) (h .except) t (h .aligned) (omega (arith, h .most))
+  where
+    by : (p : Prefix) (o : Option Prefix) → goodExcept s p o ≡ true → fits p ≡ true → zeroAfter p ≡ true → p .length < 64 → leaseEncodable p o ≡ true
+    by p none e t z l = t
+    by p (some e) q t z l =
+        let w : e ≡ last64 p = same-prefix e (last64 p) (both (s .exclusion) (samePrefix e (last64 p)) q .1) in
+        both-made t (rw w (last64-encodable p l z))
+
+-- a lease and prefixes to return
+abbrev FineVerdict : Verdict → Type 0
+FineVerdict (offer l xs) = (leaseEncodable (l .prefix) (l .except) ≡ true) × Every FineListed xs × (first takes xs ≡ none)
+FineVerdict (return xs) = Every FineListed xs × (first takes xs ≡ none)
+FineVerdict (say k) = Unit {0}
+FineVerdict success = Unit {0}
+FineVerdict silence = Unit {0}
+
+-- what is returned has no lifetime, so that no router takes it
+returned-none : (l : List Listed) → first takes (map returned l) ≡ none
+returned-none [] = refl
+returned-none (x ∷ l) = returned-none l
+
+module _ (s : Settings) (now : Moment) (q : Asked) (rs : List Record) (good : Good s) (gi : goodIdentity (q .who) ≡ true) (soon : now < 2 ^ 48) (fine : Fine s rs)
+    (told : Every FineListed (q .listed)) where
+  bound-fine : (r : Record) → binding (q .who) rs ≡ some r → leaseEncodable (r .lease .prefix) (r .lease .except) ≡ true
+  bound-fine r b = lease-good s r (good .pool-fits) (first-all (isBinding (q .who)) (goodRecord s) rs b (fine .good) .1)
+
+  chosen-fine : (hint : Option Prefix) (p : Prefix) → choose s rs hint ≡ some p → leaseEncodable p (leaseFor s (q .asks) p .except) ≡ true
+  chosen-fine hint p e =
+      let c = choose-chosen s rs (good .lengths) hint e in
+      lease-good s (fresh s (q .who) (q .asks) now rs p good gi soon c) (good .pool-fits) (fresh-good s (q .who) (q .asks) now rs p good gi soon c)
+
+  others-quiet : (p : Prefix) → Every FineListed (others p (q .listed)) × (first takes (others p (q .listed)) ≡ none)
+  unfolding others
+  others-quiet p = (others-fine p (q .listed) told, returned-none (keep (λ x. not (samePrefix (x .lease .prefix) p)) (q .listed)))
+
+  solicit-said : (f : Option Record) (c : Option Prefix) → binding (q .who) rs ≡ f → choose s rs (hintOf (q .listed)) ≡ c → FineVerdict (serveSolicit s now q rs f c .verdict)
+  solicit-said (some r) c b e = (bound-fine r b, tt, refl)
+  solicit-said none (some p) b e = (chosen-fine (hintOf (q .listed)) p e, tt, refl)
+  solicit-said none none b e = tt
+
+  request-said : (f : Option Record) (c : Option Prefix) → binding (q .who) rs ≡ f → choose s rs (hintOf (q .listed)) ≡ c → FineVerdict (serveRequest s now q rs f c .verdict)
+  request-said (some r) c b e = (bound-fine r b, tt, refl)
+  request-said none (some p) b e = (chosen-fine (hintOf (q .listed)) p e, tt, refl)
+  request-said none none b e = tt
+
+  renew-said : (f : Option Record) → binding (q .who) rs ≡ f → FineVerdict (serveRenew s now q rs f .verdict)
+  renew-said (some r) b = let o = others-quiet (r .lease .prefix) in (bound-fine r b, o .0, o .1)
+  renew-said none b = tt
+
+  rebind-said : (f : Option Record) → binding (q .who) rs ≡ f → FineVerdict (serveRebind s now q rs f .verdict)
+  rebind-said (some r) b = renew-said (some r) b
+  rebind-said none b = by (gone s (q .listed))
+    where
+      by : (b : Bool) → FineVerdict (cond b (return (map returned (q .listed))) silence)
+      by true = (all-returned-fine (q .listed) told, returned-none (q .listed))
+      by false = tt
+
+  release-said : (f : Option Record) → FineVerdict (serveRelease s now q rs f .verdict)
+  release-said none = tt
+  release-said (some r) = by (isFreed r (q .listed))
+    where
+      by : (b : Bool) → FineVerdict (cond b (leaves (giveUp (isBinding (q .who)) rs) success) (leaves rs noBinding) .verdict)
+      by true = tt
+      by false = tt
+
+  pub said : (k : Kind) → FineVerdict (serve s now q rs k .verdict)
+  unfolding serve
+  said Solicit = solicit-said (binding (q .who) rs) (choose s rs (hintOf (q .listed))) refl refl
+  said Request = request-said (binding (q .who) rs) (choose s rs (hintOf (q .listed))) refl refl
+  said Renew = renew-said (binding (q .who) rs) refl
+  said Rebind = rebind-said (binding (q .who) rs) refl
+  said Release = release-said (binding (q .who) rs)
+
+-- T1 and T2 fit their fields
+times-fit : (p : Lifetime) → p ≤ forEver → (t1For p < 2 ^ 32) × (t2For p < 2 ^ 32)
+unfolding t1For t2For
+times-fit p h = by (eqb p forEver)
+  where
+    by : (b : Bool) → (cond b forEver (p / 2) < 2 ^ 32) × (cond b forEver (p * 4 / 5) < 2 ^ 32)
+    by true = (omega arith, omega arith)
+    by false = (omega arith, omega arith)
+
+ia-for-fine : (s : Settings) (i : ℕ) (v : Verdict) → Good s → i < 2 ^ 32 → FineVerdict v → Every FineIa (iaFor s i v)
+ia-for-fine s i (offer l xs) g h f =
+    let t = times-fit (s .preferred) (omega (arith, g .preferred-valid, g .valid-32)) in
+    let x : FineListed (offered s l) = record { preferred = omega (arith, g .preferred-valid, g .valid-32); valid = omega (arith, g .valid-32); encodes = f .0 } in
+    (record { iaid = h; t1 = t .0; t2 = t .1; listed = (x, f .1) }, tt)
+ia-for-fine s i (return xs) g h f = (record { iaid = h; t1 = pow-pos 32; t2 = pow-pos 32; listed = f .0 }, tt)
+ia-for-fine s i (say k) g h f = (record { iaid = h; t1 = pow-pos 32; t2 = pow-pos 32; listed = tt }, tt)
+ia-for-fine s i success g h f = tt
+ia-for-fine s i silence g h f = tt
+
+-- what a router takes of an answer is what was offered
+ia-taken : (s : Settings) (i : ℕ) (v : Verdict) (d : Ia) → d .listed ≡ [] → FineVerdict v → (x : Listed) → first takes (getD (iaFor s i v) 0 d .listed) ≡ some x
+    → (l : Lease) × (xs : List Listed) × (v ≡ offer l xs) × (x ≡ offered s l) × (getD (iaFor s i v) 0 d .iaid ≡ i)
+ia-taken s i (offer l xs) d n f x e = by (takes (offered s l)) e
+  where
+    by : (b : Bool) → cond b (some (offered s l)) (first takes xs) ≡ some x
+        → (l′ : Lease) × (ys : List Listed) × (offer l xs ≡ offer l′ ys) × (x ≡ offered s l′) × (i ≡ i)
+    by true q = let w : offered s l ≡ x = cc in (l, xs, refl, sym w, refl)
+    by false q = absurd (Option·none-ne-some x (sym (f .2) ∙ q))
+ia-taken s i (return xs) d n f x e = absurd (Option·none-ne-some x (sym (f .1) ∙ e))
+ia-taken s i (say k) d n f x e = absurd (Option·none-ne-some x e)
+ia-taken s i success d n f x e = absurd (Option·none-ne-some x (sym (ap (first takes) n) ∙ e))
+ia-taken s i silence d n f x e = absurd (Option·none-ne-some x (sym (ap (first takes) n) ∙ e))
+
+-- ---------------------------------------------------------------- a message served
+
+plus-mono : (t n : Moment) (v : Lifetime) → t ≤ n → plus t v ≤ plus n v
+unfolding plus
+plus-mono t n v l = by (eqb v forEver)
+  where
+    by : (b : Bool) → cond b never (t + v) ≤ cond b never (n + v)
+    by true = omega arith
+    by false = omega arith
+
+module _ {T : Table} {n : Moment} {m : List ℕ} {room : ℕ} (a : Accepted T n m room) where
+  abbrev v : Message
+  v = read m
+
+  abbrev s : Settings
+  s = T .settings
+
+  abbrev rs : List Record
+  rs = current n (T .records)
+
+  abbrev q : Asked
+  q = askedBy v
+
+  good : Good s
+  good = good-facts s (sound-facts T (a .sound-table) .settings)
+
+  told-fine : Every FineListed (q .listed)
+  told-fine = ia-of-fine v (read-fine m (a .formed)) .listed
+
+  pub verdict-fine : FineVerdict (serving T n v .verdict)
+  unfolding serving
+  verdict-fine = said s n q rs good (asker-good a) (a .soon) (fine-records a) told-fine (kindOf (v .kind))
+
+  pub answer-reads : read (print (answerAfter T n v)) ≡ answerAfter T n v
+  unfolding answerAfter
+  answer-reads =
+      print-read (answerTo s v (saying T n v))
+      (answer-fine s v (saying T n v) (read-fine m (a .formed)) (ia-for-fine s (iaOf v .iaid) (serving T n v .verdict) good (asked-iaid m) verdict-fine))
+
+  act : Acts s n q rs (kindOf (v .kind)) (serving T n v)
+  unfolding serving
+  act = acts s n q rs (kindOf (v .kind))
+
+  -- the message reads as its asker's
+  up : {i : Identity} {x : ℕ} → q .who ≡ i → v .number ≡ x → Up m i x (isRelease (kindOf (v .kind)))
+  up e f = record { kind = a .kind; asker = e; number = f; frees = refl }
+
+  abbrev out : List ℕ
+  out = print (answerAfter T n v)
+
+  -- what a Reply gives: the lease that was offered, to the asker
+  record Given (i : Identity) (x : ℕ) (c : Lease) (w : Lifetime) : Type 0 where
+    rest : List Listed
+    offers : serving T n v .verdict ≡ offer c rest
+    lasting : w ≡ s .valid
+    asker : q .who ≡ i
+    number : v .number ≡ x
+    replied : isSolicit (kindOf (v .kind)) ≡ false
+
+  given : (i : Identity) (x : ℕ) (c : Lease) (w : Lifetime) → Down out i x c w → Given i x c w
+  unfolding answerAfter answerTo
+  given i x c w d =
+      let e = answer-reads in
+      let t : first takes (getD (saying T n v) 0 _ .listed) ≡ some (d .listed) = ap (λ u. first takes (iaOf u .listed)) (sym e) ∙ d .taken in
+      let z = ia-taken s (iaOf v .iaid) (serving T n v .verdict) _ refl verdict-fine (d .listed) t in
+      let l : z .0 ≡ c = ap (λ u. u .lease) (sym (z .3)) ∙ d .lease in
+      record {
+        rest = z .1;
+        offers = z .2 ∙ ap (λ k. offer k (z .1)) l;
+        lasting = sym (d .valid) ∙ ap (λ u. u .valid) (z .3);
+        asker = identity-path (ap clientOf (sym e) ∙ d .client) (sym (z .4) ∙ ap (λ u. iaOf u .iaid) (sym e) ∙ d .iaid);
+        number = ap (λ u. u .number) (sym e) ∙ d .number;
+        replied = reply (kindOf (v .kind)) (ap (λ u. u .kind) (sym e) ∙ d .reply);
+      }
+    where
+      reply : (k : Kind) → answerType k ≡ 7 → isSolicit k ≡ false
+      reply Solicit h = absurd (omega arith)
+      reply Request h = refl
+      reply Renew h = refl
+      reply Rebind h = refl
+      reply Release h = refl
+
+  keeps : (i : Identity) (c : Lease) (e : Moment) → Binds (some T) i c e → n < e → ((x : ℕ) → Up m i x true → ⊥) → Binds (some (tableAfter T n v)) i c e
+  unfolding tableAfter
+  keeps i c e b l f =
+      let w : T ≡ b .table = cc in
+      let h : Mem (b .record-of) (T .records) = subst (λ t. Mem (b .record-of) (t .records)) (sym w) (b .stands) in
+      let g = give-up-mem (λ r. not (live n r)) (T .records) (ap not (lt-ltb n _ (omega (arith, b .lasts)))) h in
+      let k = act .kept (b .record-of) g (other (isBinding (q .who) (b .record-of)) refl (isRelease (kindOf (v .kind))) refl) in
+      record {
+        table = tableAfter T n v;
+        started = refl;
+        record-of = k .0;
+        stands = k .1;
+        owned = k .2 .owner-same ∙ b .owned;
+        same = k .2 .lease-same ∙ b .same;
+        lasts = omega (arith, k .2 .end-up, b .lasts);
+      }
+    where
+      other : (x : Bool) → isBinding (q .who) (b .record-of) ≡ x → (y : Bool) → isRelease (kindOf (v .kind)) ≡ y
+          → (isBinding (q .who) (b .record-of) ≡ false) ⊎ (isRelease (kindOf (v .kind)) ≡ false)
+      other false p y r = inl p
+      other true p false r = inr r
+      other true p true r =
+          let o : q .who ≡ i = sym (identity-true _ _ p) ∙ b .owned in
+          absurd (f (v .number) (subst (Up m i (v .number)) r (up o refl)))
+
+  gives : (i : Identity) (x : ℕ) (c : Lease) (w : Lifetime) (t : Moment) → Down out i x c w → t ≤ n → Binds (some (tableAfter T n v)) i c (plus t w)
+  unfolding tableAfter
+  gives i x c w t d l =
+      let g = given i x c w d in
+      let k = act .gave c (g .rest) (g .offers) (g .replied) in
+      let p : plus t w ≤ plus n (s .valid) = subst (λ u. plus t w ≤ plus n u) (g .lasting) (plus-mono t n w l) in
+      record {
+        table = tableAfter T n v;
+        started = refl;
+        record-of = k .0;
+        stands = k .1;
+        owned = k .2 ∙ g .asker;
+        same = k .3;
+        lasts = omega (arith, k .4);
+      }
+
+  answers-so : Served T n m (tableAfter T n v) out
+  unfolding tableAfter answerAfter answerTo
+  answers-so = record {
+    sound-after = sound-after a;
+    settings-same = refl;
+    keeps = keeps;
+    gives = gives;
+    echoes = λ i x c w d. let g = given i x c w d in (isRelease (kindOf (v .kind)), up (g .asker) (g .number));
+    mute = mute;
+  }
+    where
+      mute : (i : Identity) (x : ℕ) (b : Bool) → Up out i x b → ⊥
+      mute i x b u = answer-unserved (kindOf (v .kind)) (ap (λ w. served (w .kind)) (sym answer-reads) ∙ u .kind)
+
+pub answers : (T T′ : Table) (n : Moment) (m a : List ℕ) (room : ℕ) → boxHandle T n m room ≡ done (T′, a) → Served T n m T′ a
+answers T T′ n m a room e = let p = accepted e in two (Served T n m) (p .1) (answers-so (p .0))

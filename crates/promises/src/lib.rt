@@ -1,0 +1,1 @@
+// The promises: theorems over the rules, in specs/. There is no code here.
