@@ -19,3 +19,4 @@ pub mod Told
 pub mod Sizes
 pub mod Lone
 pub mod Sent
+pub mod Represent

@@ -131,6 +131,10 @@ module _ {A : Type 0} (g : ℕ → A) where
       by true e = refl
       by false e = e
 
+pub from-map : {A B : Type 0} (f : A → B) (g : ℕ → A) (k i : ℕ) → from (λ j. f (g j)) i k ≡ map f (from g i k)
+from-map f g zero i = refl
+from-map f g (suc k) i = rw (from-map f g k (i + 1))
+
 -- ---------------------------------------------------------------- a filter, and one more
 
 module _ {A : Type 0} where
