@@ -5,6 +5,9 @@ pub mod Parts
 pub mod Numbers
 pub mod Prefix
 pub mod Walk
+pub mod Bits
+pub mod Halves
+pub mod Exclude
 pub mod Kinds
 pub mod Rows
 pub mod Same
@@ -13,10 +16,10 @@ pub mod Sound
 pub mod Flat
 pub mod Every
 pub mod Stands
-pub mod Unpack
 pub mod Round
 pub mod Told
 pub mod Sizes
 pub mod Lone
 pub mod Sent
+pub mod Said
 pub mod Represent

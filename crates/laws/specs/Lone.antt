@@ -28,7 +28,7 @@ use Rattle.laws.specs.Parts.{part-cons}
 use Rattle.laws.specs.Numbers.{Bytes, bytes-part, numAt-is}
 use Rattle.laws.specs.Refusals.{unless-done, unless-made}
 use Rattle.laws.specs.Every.{every-weaker, every-all}
-use Rattle.laws.specs.Unpack.{encodable→, content-encodable, content-same}
+use Rattle.laws.specs.Exclude.{encodes, unpacked-encodable, packed-unpacked}
 use Rattle.laws.specs.Stands.{Stands, Heads, stands-all, stands-part, stands-u16, stands-option, option-length}
 use Rattle.laws.specs.Round.{FineListed, FineIa, statusBytes, status-good, exclude-length, exclude-well, exclude-found}
 use Rattle.laws.specs.Round.{listed-well, listed-found, ia-well, ia-found}
@@ -95,7 +95,7 @@ unfolding readExclude writeExclude own
 exclude-round p e room h =
     let s = excludeBytes (p .length) e in
     let r = write-done (encodable p e) 67 s room h in
-    let i = encodable→ p e (r .encoded) in
+    let i = encodes p e (r .encoded) in
     lone-round (InPrefix (p .length)) 67 s (λ t. unpacked p (getD t 4 0) (numAt t 5 (length t - 5))) r
     (omega (arith, text-length r, exclude-length (p .length) e))
     (λ g. rw (exclude-well p e (r .encoded) g))
@@ -208,6 +208,6 @@ exclude-unique p e t y q =
     let s : part 4 (length t - 4) t ≡ b ∷ l = ap (λ (j : ℕ). part 4 j t) k ∙ part-cons 4 (n - 1) t 0 (omega arith) in
     let c = bytes-part 5 (n - 1) t y in
     record {
-      encoded = rw i at (content-encodable p b l c (o .1));
-      text = lone-same y h ∙ ap (option 67) (s ∙ sym (content-same p b l c (o .1)) ∙ ap (excludeBytes a) i);
+      encoded = rw i at (unpacked-encodable p b l c (o .1));
+      text = lone-same y h ∙ ap (option 67) (s ∙ sym (packed-unpacked p b l c (o .1)) ∙ ap (excludeBytes a) i);
     }

@@ -26,7 +26,7 @@ use Rattle.rules.specs.declared.Checked.the-variants.{Good}
 use Rattle.laws.specs.Tests.{both}
 use Rattle.laws.specs.Numbers.{length-be}
 use Rattle.laws.specs.Every.{Every, every, every-weaker}
-use Rattle.laws.specs.Unpack.{packed-lt, packed-content, num-packed, unpack-pack}
+use Rattle.laws.specs.Exclude.{packed-lt, packed-content, num-packed, unpacked-packed}
 use Rattle.laws.specs.Stands.{Stands, stands-all, stands-tail, stands-part, stands-byte, stands-u16, stands-num, stands-after}
 use Rattle.laws.specs.Stands.{placed, area-of, bytesOf, bytes-map, bytes-block, Match, match, match-values}
 use Rattle.laws.specs.Stands.{Well, WellAt, well, well-append, well-map}
@@ -109,7 +109,7 @@ module _ {m : List ℕ} {q : ℕ} (p e : Prefix) (i : encodable p e ≡ true) (h
   pub exclude-found : unpacked p (getD m q 0) (numAt m (q + 1) (length (excludeBytes (p .length) e) - 1)) ≡ e
   exclude-found =
       let t : Stands m (q + 1) (be (bytesFor (p .length) (e .length)) (packed (p .length) e) ++ []) = rw append-nil exclude-1 in
-      rw (exclude-0, exclude-rest, stands-num _ _ [] t (packed-lt (p .length) e), ← num-packed (p .length) e) (unpack-pack p e i)
+      rw (exclude-0, exclude-rest, stands-num _ _ [] t (packed-lt (p .length) e), ← num-packed (p .length) e) (unpacked-packed p e i)
 
 except-well : (m : List ℕ) (p : Prefix) (o : Option Prefix) → leaseEncodable p o ≡ true → Well m (inPrefix m (p .length)) 0 (exceptItems (p .length) o)
 except-well m p none f = tt

@@ -22,7 +22,7 @@ use Rattle.rules.specs.Box.{returned, others}
 use Rattle.laws.specs.Tests.{both}
 use Rattle.laws.specs.Loops.{keep-few}
 use Rattle.laws.specs.Every.{Every, every, every-weaker, every-map}
-use Rattle.laws.specs.Unpack.{encodable→}
+use Rattle.laws.specs.Exclude.{encodes}
 use Rattle.laws.specs.Stands.{option-length}
 use Rattle.laws.specs.Round.{statusBytes, exclude-length, listedItems, listed-length, iaItems, ia-length, print-length}
 
@@ -74,7 +74,7 @@ UpTo b (some e) = e .length ≤ b
 
 pub encodable-upto : (p : Prefix) (o : Option Prefix) → leaseEncodable p o ≡ true → UpTo 128 o
 encodable-upto p none h = tt
-encodable-upto p (some e) h = encodable→ p e (both (fits p) (encodable p e) h .1) .most
+encodable-upto p (some e) h = encodes p e (both (fits p) (encodable p e) h .1) .most
 
 except-most : (a b : ℕ) (o : Option Prefix) → UpTo b o → length (printed (exceptItems a o)) ≤ 5 + bytesFor a b
 except-most a b none h = omega (arith, none-length)

@@ -10,7 +10,7 @@ use native.Mathlib.Omega.{arith}
 use borrow.Author.Tests.{eqb-true, lt-ltb, ltb-true}
 use lib.Dec.{eqb, leb, ltb}
 use lib.ListN.{length, getD}
-use lib.Pow.{pow-pos, mod-mod-pow}
+use lib.Pow.{pow-pos}
 use Rattle.rules.specs.Words.{consIf, keep, part, num, numAt}
 use Rattle.rules.specs.Prefix.{Prefix, prefix, fits, samePrefix, bytesFor, pad, contentOk, leaseEncodable}
 use Rattle.rules.specs.Options.{stepAt, grow, walk, areaOf, andThen, wants, scan, options}
@@ -30,7 +30,7 @@ use Rattle.laws.specs.Parts.{length-part}
 use Rattle.laws.specs.Numbers.{numAt-fits}
 use Rattle.laws.specs.Walk.{step-inside}
 use Rattle.laws.specs.Every.{Every, every, every-weaker, every-at, every-keep, every-map}
-use Rattle.laws.specs.Unpack.{content→, pad-fills, unpacked-encodable}
+use Rattle.laws.specs.Exclude.{content, number-encodable}
 use Rattle.laws.specs.Round.{lease-fits, FineListed, FineIa, Fine}
 
 -- ---------------------------------------------------------------- any list
@@ -123,12 +123,10 @@ except-fine m e r p h (At q s n) g =
     let b = getD m s 0 in
     let l = part (s + 1) (n - 1) m in
     let o = both (ltb 0 n) (contentOk a b l) (both (eqb (g .1) 0) (excludeOk m a s n) (wants-good _ q (g .2)) .1) in
-    let c = content→ a b l (o .1) in
-    let k : n - 1 ≡ bytesFor a b = sym (length-part (s + 1) (n - 1) m (omega (arith, ltb-true 0 n (o .0)))) ∙ c .bytes in
+    let c = content a b l (o .1) in
+    let k : n - 1 ≡ bytesFor a b = sym (length-part (s + 1) (n - 1) m (omega (arith, ltb-true 0 n (o .0)))) ∙ c .whole in
     let few : numAt m (s + 1) (n - 1) < 2 ^ (8 * bytesFor a b) = subst (λ (i : ℕ). numAt m (s + 1) (n - 1) < 2 ^ (8 * i)) k (numAt-fits m (s + 1) (n - 1)) in
-    let w : 8 * (n - 1) ≡ b - a + pad a b = ap (λ (i : ℕ). 8 * i) k ∙ sym (pad-fills a b) in
-    let clear : numAt m (s + 1) (n - 1) % 2 ^ pad a b ≡ 0 = ap (λ (i : ℕ). num l % 2 ^ i % 2 ^ pad a b) w ∙ mod-mod-pow (num l) (b - a) (pad a b) ∙ c .clear in
-    both-made h (unpacked-encodable p b (numAt m (s + 1) (n - 1)) (c .longer) (c .most) few clear)
+    both-made h (number-encodable p b (numAt m (s + 1) (n - 1)) (omega (arith, c .more)) (c .most) few (c .more))
 
 pub listed-fine : (m : List ℕ) (e : ℕ) → e ≤ length m → (f : Found) → GoodAt (inPd m) 26 e f → FineListed (listedAt m f)
 unfolding listedAt checkPrefix

@@ -25,17 +25,14 @@ use Rattle.rules.specs.World.{Box}
 use Rattle.rules.specs.Promises.{Bound}
 use Rattle.rules.specs.declared.Kind.{Kind}
 use Rattle.rules.specs.declared.Kind.the-variants.{Solicit, Request, Renew, Rebind, Release}
-use Rattle.laws.specs.Tests.{both, both-made, false-true}
-use Rattle.laws.specs.Loops.{first-all}
-use Rattle.laws.specs.Prefix.{same-prefix, inside-fits}
-use Rattle.laws.specs.Every.{Every}
-use Rattle.laws.specs.Unpack.{last64-encodable}
-use Rattle.laws.specs.Round.{FineListed, FineIa, print-read}
-use Rattle.laws.specs.Told.{read-fine, ia-of-fine, others-fine, all-returned-fine, answer-fine}
-use Rattle.laws.specs.Choose.{choose-chosen}
+use Rattle.laws.specs.Tests.{both, false-true}
+use Rattle.laws.specs.Round.{Fine, print-read}
+use Rattle.laws.specs.Told.{read-fine, ia-of-fine}
+use Rattle.laws.specs.Sent.{Sendable, GoodVerdict, answer-sent}
+use Rattle.laws.specs.Said.{Quiet, said, offer-taken}
 use Rattle.laws.specs.Refusals.{two}
-use Rattle.laws.specs.Kinds.{answer-unserved, identity-path, identity-true}
-use Rattle.laws.specs.Sound.{Good, good-facts, sound-facts, record-facts, give-up, touched, fresh, fresh-good, Fine}
+use Rattle.laws.specs.Kinds.{answer-unserved, row-one-client, identity-path, identity-true}
+use Rattle.laws.specs.Sound.{Good, good-facts, sound-facts, give-up, touched}
 use Rattle.promises.specs.Readings.{Up, Down, hold, Binds, Served}
 use Rattle.promises.specs.Stays.{Accepted, accepted, asked-iaid, asker-good, fine-records, sound-after}
 
@@ -177,120 +174,6 @@ module _ (s : Settings) (now : Moment) (q : Asked) (rs : List Record) where
   acts Rebind = rebinds (binding (q .who) rs) refl
   acts Release = releases (binding (q .who) rs)
 
--- ---------------------------------------------------------------- what is said is fine
-
--- a good record's lease has an encoding
-pub lease-good : (s : Settings) (r : Record) → fits (s .pool) ≡ true → goodRecord s r ≡ true → leaseEncodable (r .lease .prefix) (r .lease .except) ≡ true
-lease-good s r f g =
-    let h = record-facts s r g in
-    let b = inside-fits (r .lease .prefix) (s .pool) f (h .in-pool) in
-    let t : fits (r .lease .prefix) ≡ true = both-made (le-leb (r .lease .prefix .length) 128 (omega (arith, h .most))) (lt-ltb (r .lease .prefix .bits) (2 ^ 128) b) in
-    by (r .lease .prefix) (r .lease .except) (h .except) t (h .aligned) (omega (arith, h .most))
-  where
-    by : (p : Prefix) (o : Option Prefix) → goodExcept s p o ≡ true → fits p ≡ true → zeroAfter p ≡ true → p .length < 64 → leaseEncodable p o ≡ true
-    by p none e t z l = t
-    by p (some e) q t z l =
-        let w : e ≡ last64 p = same-prefix e (last64 p) (both (s .exclusion) (samePrefix e (last64 p)) q .1) in
-        both-made t (rw w (last64-encodable p l z))
-
--- a lease and prefixes to return
-abbrev FineVerdict : Verdict → Type 0
-FineVerdict (offer l xs) = (leaseEncodable (l .prefix) (l .except) ≡ true) × Every FineListed xs × (first takes xs ≡ none)
-FineVerdict (return xs) = Every FineListed xs × (first takes xs ≡ none)
-FineVerdict (say k) = Unit {0}
-FineVerdict success = Unit {0}
-FineVerdict silence = Unit {0}
-
--- what is returned has no lifetime, so that no router takes it
-returned-none : (l : List Listed) → first takes (map returned l) ≡ none
-returned-none [] = refl
-returned-none (x ∷ l) = returned-none l
-
-module _ (s : Settings) (now : Moment) (q : Asked) (rs : List Record) (good : Good s) (gi : goodIdentity (q .who) ≡ true) (soon : now < 2 ^ 48) (fine : Fine s rs)
-    (told : Every FineListed (q .listed)) where
-  bound-fine : (r : Record) → binding (q .who) rs ≡ some r → leaseEncodable (r .lease .prefix) (r .lease .except) ≡ true
-  bound-fine r b = lease-good s r (good .pool-fits) (first-all (isBinding (q .who)) (goodRecord s) rs b (fine .good) .1)
-
-  chosen-fine : (hint : Option Prefix) (p : Prefix) → choose s rs hint ≡ some p → leaseEncodable p (leaseFor s (q .asks) p .except) ≡ true
-  chosen-fine hint p e =
-      let c = choose-chosen s rs (good .lengths) hint e in
-      lease-good s (fresh s (q .who) (q .asks) now rs p good gi soon c) (good .pool-fits) (fresh-good s (q .who) (q .asks) now rs p good gi soon c)
-
-  others-quiet : (p : Prefix) → Every FineListed (others p (q .listed)) × (first takes (others p (q .listed)) ≡ none)
-  unfolding others
-  others-quiet p = (others-fine p (q .listed) told, returned-none (keep (λ x. not (samePrefix (x .lease .prefix) p)) (q .listed)))
-
-  solicit-said : (f : Option Record) (c : Option Prefix) → binding (q .who) rs ≡ f → choose s rs (hintOf (q .listed)) ≡ c → FineVerdict (serveSolicit s now q rs f c .verdict)
-  solicit-said (some r) c b e = (bound-fine r b, tt, refl)
-  solicit-said none (some p) b e = (chosen-fine (hintOf (q .listed)) p e, tt, refl)
-  solicit-said none none b e = tt
-
-  request-said : (f : Option Record) (c : Option Prefix) → binding (q .who) rs ≡ f → choose s rs (hintOf (q .listed)) ≡ c → FineVerdict (serveRequest s now q rs f c .verdict)
-  request-said (some r) c b e = (bound-fine r b, tt, refl)
-  request-said none (some p) b e = (chosen-fine (hintOf (q .listed)) p e, tt, refl)
-  request-said none none b e = tt
-
-  renew-said : (f : Option Record) → binding (q .who) rs ≡ f → FineVerdict (serveRenew s now q rs f .verdict)
-  renew-said (some r) b = let o = others-quiet (r .lease .prefix) in (bound-fine r b, o .0, o .1)
-  renew-said none b = tt
-
-  rebind-said : (f : Option Record) → binding (q .who) rs ≡ f → FineVerdict (serveRebind s now q rs f .verdict)
-  rebind-said (some r) b = renew-said (some r) b
-  rebind-said none b = by (gone s (q .listed))
-    where
-      by : (b : Bool) → FineVerdict (cond b (return (map returned (q .listed))) silence)
-      by true = (all-returned-fine (q .listed) told, returned-none (q .listed))
-      by false = tt
-
-  release-said : (f : Option Record) → FineVerdict (serveRelease s now q rs f .verdict)
-  release-said none = tt
-  release-said (some r) = by (isFreed r (q .listed))
-    where
-      by : (b : Bool) → FineVerdict (cond b (leaves (giveUp (isBinding (q .who)) rs) success) (leaves rs noBinding) .verdict)
-      by true = tt
-      by false = tt
-
-  pub said : (k : Kind) → FineVerdict (serve s now q rs k .verdict)
-  unfolding serve
-  said Solicit = solicit-said (binding (q .who) rs) (choose s rs (hintOf (q .listed))) refl refl
-  said Request = request-said (binding (q .who) rs) (choose s rs (hintOf (q .listed))) refl refl
-  said Renew = renew-said (binding (q .who) rs) refl
-  said Rebind = rebind-said (binding (q .who) rs) refl
-  said Release = release-said (binding (q .who) rs)
-
--- T1 and T2 fit their fields
-times-fit : (p : Lifetime) → p ≤ forEver → (t1For p < 2 ^ 32) × (t2For p < 2 ^ 32)
-unfolding t1For t2For
-times-fit p h = by (eqb p forEver)
-  where
-    by : (b : Bool) → (cond b forEver (p / 2) < 2 ^ 32) × (cond b forEver (p * 4 / 5) < 2 ^ 32)
-    by true = (omega arith, omega arith)
-    by false = (omega arith, omega arith)
-
-ia-for-fine : (s : Settings) (i : ℕ) (v : Verdict) → Good s → i < 2 ^ 32 → FineVerdict v → Every FineIa (iaFor s i v)
-ia-for-fine s i (offer l xs) g h f =
-    let t = times-fit (s .preferred) (omega (arith, g .preferred-valid, g .valid-32)) in
-    let x : FineListed (offered s l) = record { preferred = omega (arith, g .preferred-valid, g .valid-32); valid = omega (arith, g .valid-32); encodes = f .0 } in
-    (record { iaid = h; t1 = t .0; t2 = t .1; listed = (x, f .1) }, tt)
-ia-for-fine s i (return xs) g h f = (record { iaid = h; t1 = pow-pos 32; t2 = pow-pos 32; listed = f .0 }, tt)
-ia-for-fine s i (say k) g h f = (record { iaid = h; t1 = pow-pos 32; t2 = pow-pos 32; listed = tt }, tt)
-ia-for-fine s i success g h f = tt
-ia-for-fine s i silence g h f = tt
-
--- what a router takes of an answer is what was offered
-ia-taken : (s : Settings) (i : ℕ) (v : Verdict) (d : Ia) → d .listed ≡ [] → FineVerdict v → (x : Listed) → first takes (getD (iaFor s i v) 0 d .listed) ≡ some x
-    → (l : Lease) × (xs : List Listed) × (v ≡ offer l xs) × (x ≡ offered s l) × (getD (iaFor s i v) 0 d .iaid ≡ i)
-ia-taken s i (offer l xs) d n f x e = by (takes (offered s l)) e
-  where
-    by : (b : Bool) → cond b (some (offered s l)) (first takes xs) ≡ some x
-        → (l′ : Lease) × (ys : List Listed) × (offer l xs ≡ offer l′ ys) × (x ≡ offered s l′) × (i ≡ i)
-    by true q = let w : offered s l ≡ x = cc in (l, xs, refl, sym w, refl)
-    by false q = absurd (Option·none-ne-some x (sym (f .2) ∙ q))
-ia-taken s i (return xs) d n f x e = absurd (Option·none-ne-some x (sym (f .1) ∙ e))
-ia-taken s i (say k) d n f x e = absurd (Option·none-ne-some x e)
-ia-taken s i success d n f x e = absurd (Option·none-ne-some x (sym (ap (first takes) n) ∙ e))
-ia-taken s i silence d n f x e = absurd (Option·none-ne-some x (sym (ap (first takes) n) ∙ e))
-
 -- ---------------------------------------------------------------- a message served
 
 plus-mono : (t n : Moment) (v : Lifetime) → t ≤ n → plus t v ≤ plus n v
@@ -317,18 +200,28 @@ module _ {T : Table} {n : Moment} {m : List ℕ} {room : ℕ} (a : Accepted T n 
   good : Good s
   good = good-facts s (sound-facts T (a .sound-table) .settings)
 
-  told-fine : Every FineListed (q .listed)
-  told-fine = ia-of-fine v (read-fine m (a .formed)) .listed
+  told-fine : Fine v
+  told-fine = read-fine m (a .formed)
 
-  pub verdict-fine : FineVerdict (serving T n v .verdict)
+  listed-few : length (q .listed) ≤ 4
+  listed-few = leb-true _ 4 (both (eqb (length (v .ias)) 1) (leb (length (q .listed)) 4) (not-false _ (a .pds)) .1)
+
+  pub verdict-said : GoodVerdict (isRelease (kindOf (v .kind))) (serving T n v .verdict) × Quiet (serving T n v .verdict)
   unfolding serving
-  verdict-fine = said s n q rs good (asker-good a) (a .soon) (fine-records a) told-fine (kindOf (v .kind))
+  verdict-said = said s n q rs good (asker-good a) (a .soon) (fine-records a) (ia-of-fine v told-fine .listed) listed-few (kindOf (v .kind))
+
+  -- the answer has an encoding and fits its room
+  pub answer-sendable : Sendable (answerAfter T n v) 442
+  unfolding answerAfter
+  answer-sendable =
+      let c = row-one-client (s .own) v (a .kind) (a .row) in
+      let few : length (clientOf v) ≤ 130 = leb-true _ 130 (both (leb 3 (length (clientOf v))) (leb (length (clientOf v)) 130) (c .1) .1) in
+      let own : length (s .own) ≤ 130 = leb-true _ 130 (both (leb 3 (length (s .own))) (leb (length (s .own)) 130) (good .own) .1) in
+      answer-sent s v (iaOf v .iaid) (rw (c .0) (omega arith)) (rw (c .0) (few, tt)) own (omega (arith, good .preferred-valid, good .valid-32)) (omega (arith, good .valid-32))
+      (asked-iaid m) told-fine (serving T n v .verdict) (verdict-said .0)
 
   pub answer-reads : read (print (answerAfter T n v)) ≡ answerAfter T n v
-  unfolding answerAfter
-  answer-reads =
-      print-read (answerTo s v (saying T n v))
-      (answer-fine s v (saying T n v) (read-fine m (a .formed)) (ia-for-fine s (iaOf v .iaid) (serving T n v .verdict) good (asked-iaid m) verdict-fine))
+  answer-reads = print-read (answerAfter T n v) (answer-sendable .fine)
 
   act : Acts s n q rs (kindOf (v .kind)) (serving T n v)
   unfolding serving
@@ -355,7 +248,7 @@ module _ {T : Table} {n : Moment} {m : List ℕ} {room : ℕ} (a : Accepted T n 
   given i x c w d =
       let e = answer-reads in
       let t : first takes (getD (saying T n v) 0 _ .listed) ≡ some (d .listed) = ap (λ u. first takes (iaOf u .listed)) (sym e) ∙ d .taken in
-      let z = ia-taken s (iaOf v .iaid) (serving T n v .verdict) _ refl verdict-fine (d .listed) t in
+      let z = offer-taken s (iaOf v .iaid) (serving T n v .verdict) _ refl (verdict-said .1) (d .listed) t in
       let l : z .0 ≡ c = ap (λ u. u .lease) (sym (z .3)) ∙ d .lease in
       record {
         rest = z .1;
