@@ -14,6 +14,7 @@ pub mod Same
 pub mod Choose
 pub mod Sound
 pub mod Flat
+pub mod Binding
 pub mod Every
 pub mod Stands
 pub mod Round
