@@ -19,6 +19,9 @@ pub mod Every
 pub mod Stands
 pub mod Round
 pub mod Told
+pub mod Steps
+pub mod Asks
+pub mod Formed
 pub mod Sizes
 pub mod Lone
 pub mod Sent

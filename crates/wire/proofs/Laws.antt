@@ -1,0 +1,96 @@
+-- Laws that only these proofs need.
+use mathlib.Core.Path.{_≡_, sym, ap, _∙_, subst}
+use mathlib.Core.List.{List, [], map}
+use mathlib.Core.Bool.{Bool, true, _&&_}
+use Prim.Native.Nat.{ℕ, _+_, _-_, _*_, _^_, _≤_, _<_}
+use native.Mathlib.Omega.{arith}
+use native.Mathlib.Nat.{add-sub-cancel-left}
+use borrow.Author.Tests.{eq-eqb, ne-eqb, lt-ltb, ltb-true}
+use lib.Dec.{eqb, ltb}
+use lib.ListN.{length, getD, take, drop}
+use Rattle.rules.specs.Words.{any, part, num, be, numAt}
+use Rattle.rules.specs.Prefix.{prefix, contentOk, unpacked}
+use Rattle.rules.specs.Options.{excludeOk, own, areaOf, options, count, nth, content}
+use Rattle.rules.specs.Message.{asks67, statusAt, exceptAt, listedAt, top, read}
+use Rattle.rules.specs.declared.Level.{Level}
+use Rattle.rules.specs.declared.Level.the-variants.{Top, InPd, InPrefix}
+use Rattle.rules.specs.declared.Checked.{Checked}
+use Rattle.rules.specs.declared.Found.{Found}
+use Rattle.rules.specs.declared.Found.the-variants.{At}
+use Rattle.laws.specs.Tests.{both}
+use Rattle.laws.specs.Numbers.{Bytes, bytes-part, num-lt, numAt-is}
+use Rattle.laws.specs.Steps.{any-map}
+use Rattle.laws.specs.Exclude as exclude
+use Rattle.wire.specs.Client.{clientStretch}
+use Rattle.wire.specs.Says.{codeOf, saying}
+use Rattle.wire.specs.Values.{exceptOf, leaseOf, listedOf}
+use Rattle.wire.specs.declared.content.IaPrefix.{IaPrefix}
+use Rattle.wire.specs.declared.says.Sought.{Sought}
+use Rattle.wire.specs.declared.says.Sought.the-variants.{Asking, Status}
+
+-- the Client ID of a message, by how many there are and where the first is
+module _ (m : List ℕ) where
+  pub client-other : {k : ℕ} → k ≡ count 1 (areaOf m 4 (length m)) → (k ≡ 1 → ⊥) → [] ≡ clientStretch m
+  unfolding clientStretch top
+  client-other q h = rw (← q, ne-eqb _ _ h)
+
+  pub client-one : {k : ℕ} {f : Found} → k ≡ count 1 (areaOf m 4 (length m)) → k ≡ 1 → f ≡ nth 1 0 (areaOf m 4 (length m)) → content m f ≡ clientStretch m
+  unfolding clientStretch top
+  client-one q h g = rw (← q, eq-eqb _ _ h, ← g)
+
+  pub stretch : (s n : ℕ) → take (s + n - s) (drop s m) ≡ part s n m
+  unfolding part
+  stretch s n = rw add-sub-cancel-left
+
+-- what an option says does not depend on its place
+pub any-place : (t : Sought) (m : List ℕ) (p c s n : ℕ) {r : Bool} → r ≡ eqb c (codeOf t) && saying t m (At 0 s n) → r ≡ eqb c (codeOf t) && saying t m (At p s n)
+any-place Asking m p c s n e = e
+any-place (Status k) m p c s n e = e
+
+pub says-asked : (m : List ℕ) {r : Bool} → r ≡ any (saying Asking m) (options 6 (areaOf m 4 (length m))) → r ≡ read m .asks
+unfolding read top
+says-asked m e = e ∙ sym (any-map asks67 (content m) (options 6 (areaOf m 4 (length m))))
+
+pub says-status : (m : List ℕ) (at e k : ℕ) {r : Bool} → r ≡ any (saying (Status k) m) (options 13 (areaOf m at e)) → r ≡ any (eqb k) (map (statusAt m) (options 13 (areaOf m at e)))
+says-status m at e k q = q ∙ sym (any-map (eqb k) (statusAt m) (options 13 (areaOf m at e)))
+
+-- how deep areas can lie in one at a level
+abbrev pub rank : Level → ℕ
+rank Top = 2
+rank InPd = 1
+rank (InPrefix a) = 0
+
+pub own-is : (m : List ℕ) (k p c s n : ℕ) {l l′ : Level} {r : Checked} → l ≡ l′ → r ≡ own l′ m k p c s n → r ≡ own l m k p c s n
+own-is m k p c s n e q = q ∙ sym (ap (λ (l : Level). own l m k p c s n) e)
+
+-- a PD Exclude's content after its first byte, as a part of the message
+pub tail : (m : List ℕ) (s n : ℕ) → 0 < n → take (s + n - (s + 1)) (drop (s + 1) m) ≡ part (s + 1) (n - 1) m
+unfolding part
+tail m s n h = let e : s + n - (s + 1) ≡ n - 1 = omega arith in rw e
+
+pub tail-ok : (m : List ℕ) (a s n : ℕ) {b : ℕ} → 0 < n → b ≡ getD m s 0 → contentOk a b (take (s + n - (s + 1)) (drop (s + 1) m)) ≡ excludeOk m a s n
+tail-ok m a s n h q = rw (tail m s n h, q, lt-ltb 0 n h)
+
+pub exclude-some : (m : List ℕ) (a s n : ℕ) → excludeOk m a s n ≡ true → 0 < n
+exclude-some m a s n h = ltb-true 0 n (both (ltb 0 n) (contentOk a (getD m s 0) (part (s + 1) (n - 1) m)) h .0)
+
+-- what is unpacked is the excluded prefix that is read
+pub cut-read : (m p : List ℕ) (a s n : ℕ) → Bytes m → Bytes p → length p ≡ 16 → s + n ≤ length m → excludeOk m a s n ≡ true → {b : ℕ} → b ≡ getD m s 0
+    → (o : List ℕ) → o ≡ be 16 (unpacked (prefix (num p) a) b (num (take (s + n - (s + 1)) (drop (s + 1) m))) .bits) → exceptOf b o ≡ exceptAt m (prefix (num p) a) (At 0 s n)
+unfolding exceptOf unpacked
+cut-read m p a s n bm bp lp w h {b} q o r =
+    let c = part (s + 1) (n - 1) m in
+    let e = both (ltb 0 n) (contentOk a (getD m s 0) c) h in
+    let z : 0 < n = ltb-true 0 n (e .0) in
+    let g = exclude.content a (getD m s 0) c (e .1) in
+    let u : num p < 2 ^ 128 = subst (λ (k : ℕ). num p < 2 ^ (8 * k)) lp (num-lt p bp) in
+    let v : num o ≡ unpacked (prefix (num p) a) (getD m s 0) (num c) .bits =
+    ap num r ∙ rw (tail m s n z, q) (exclude.unpacked-num (prefix (num p) a) (getD m s 0) c (bytes-part (s + 1) (n - 1) m bm) (e .1) u) in
+    rw (v, q, ne-eqb (getD m s 0) 0 (λ x. omega (arith, g .more)), numAt-is m (s + 1) (n - 1) bm (omega arith))
+
+-- an IA Prefix is what its fields are
+pub listed-read : (m : List ℕ) (s n : ℕ) (x : IaPrefix) → Bytes m → s + 25 ≤ length m → x .preferred ≡ numAt m s 4 → x .valid ≡ numAt m (s + 4) 4 → x .length ≡ getD m (s + 8) 0
+    → x .bits ≡ part (s + 9) 16 m → exceptOf (x .cut) (x .out) ≡ exceptAt m (prefix (num (x .bits)) (x .length)) (nth 67 0 (areaOf m (s + 25) (s + n)))
+    → listedOf x (listedAt m (At 0 s n) .statuses) ≡ listedAt m (At 0 s n)
+unfolding listedOf leaseOf listedAt
+listed-read m s n x bm w p v l b o = simp (o, p, v, l, ap num b ∙ sym (numAt-is m (s + 9) 16 bm (omega arith)))

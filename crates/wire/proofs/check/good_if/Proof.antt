@@ -1,0 +1,12 @@
+-- By the test.
+use Rattle.wire.proofs.check.good_if.Statement.{statement}
+use Rattle.wire.proofs.check.good_if.Tie as tie
+
+returns : tie.Need-returns
+returns c = simp (c .if1 .taken)
+
+returns-2 : tie.Need-returns-2
+returns-2 c = simp (c .if1 .left)
+
+pub good-if-spec : {M : Type 1} → statement M
+good-if-spec = tie.close (tie.spec returns returns-2)

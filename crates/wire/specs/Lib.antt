@@ -1,0 +1,3 @@
+pub mod Client
+pub mod Says
+pub mod Values
