@@ -19,17 +19,9 @@ use Rattle.rules.specs.declared.Level.the-variants.{Top, InPd, InPrefix}
 use Rattle.rules.specs.declared.Found.the-variants.{At, Nothing}
 use Rattle.rules.specs.declared.Checked.{Checked}
 use Rattle.rules.specs.declared.Checked.the-variants.{Good, Broken}
-use Rattle.laws.specs.Told.{is-good}
+use Rattle.laws.specs.Told.{is-good, and-good, wants-good}
 use Rattle.laws.specs.Tests.{both}
 use Rattle.laws.specs.Walk.{nth-inside}
-
-and-good : (x y : Checked) → andThen x y ≡ Good → (x ≡ Good) × (y ≡ Good)
-and-good Good y h = (refl, h)
-and-good (Broken p) y h = let z : _≡_ {A = ℕ} 0 1 = cc in absurd (omega arith)
-
-wanted : (b : Bool) (p : ℕ) → wants b p ≡ Good → b ≡ true
-wanted true p h = refl
-wanted false p h = let z : _≡_ {A = ℕ} 0 1 = cc in absurd (omega arith)
 
 -- ---------------------------------------------------------------- each option of a good area was judged good
 
@@ -74,29 +66,29 @@ module _ (m : List ℕ) (i p s n : ℕ) where
   unfolding own check checkPd
   judged-pd w h =
       let a = and-good (wants (leb 12 n) p) (checkPd m (s + 12) (s + n)) h in
-      record { long = leb-true 12 n (wanted (leb 12 n) p (a .0)); within = w; inner = a .1 }
+      record { long = leb-true 12 n (wants-good (leb 12 n) p (a .0)); within = w; inner = a .1 }
 
   pub judged-prefix : s + n ≤ length m → own InPd m i p 26 s n ≡ Good → PrefixFormed m s n
   unfolding own
   judged-prefix w h =
       let g = getD m (s + 8) 0 in
       let a = and-good (wants (leb 25 n && leb g 128) p) (checkPrefix m g (s + 25) (s + n)) h in
-      let b = both (leb 25 n) (leb g 128) (wanted (leb 25 n && leb g 128) p (a .0)) in
+      let b = both (leb 25 n) (leb g 128) (wants-good (leb 25 n && leb g 128) p (a .0)) in
       record { long = leb-true 25 n (b .0); within = w; short = leb-true g 128 (b .1); inner = a .1 }
 
   pub judged-exclude : (a : ℕ) → own (InPrefix a) m i p 67 s n ≡ Good → excludeOk m a s n ≡ true
   unfolding own
-  judged-exclude a h = both (eqb i 0) (excludeOk m a s n) (wanted (eqb i 0 && excludeOk m a s n) p h) .1
+  judged-exclude a h = both (eqb i 0) (excludeOk m a s n) (wants-good (eqb i 0 && excludeOk m a s n) p h) .1
 
   pub judged-request : own Top m i p 6 s n ≡ Good → n % 2 ≡ 0
   unfolding own
-  judged-request h = eqb-true (n % 2) 0 (wanted (eqb (n % 2) 0) p h)
+  judged-request h = eqb-true (n % 2) 0 (wants-good (eqb (n % 2) 0) p h)
 
   pub judged-status : (l : Level) → own l m i p 13 s n ≡ Good → 2 ≤ n
   unfolding own
-  judged-status Top h = leb-true 2 n (wanted (leb 2 n) p h)
-  judged-status InPd h = leb-true 2 n (wanted (leb 2 n) p h)
-  judged-status (InPrefix a) h = leb-true 2 n (wanted (leb 2 n) p h)
+  judged-status Top h = leb-true 2 n (wants-good (leb 2 n) p h)
+  judged-status InPd h = leb-true 2 n (wants-good (leb 2 n) p h)
+  judged-status (InPrefix a) h = leb-true 2 n (wants-good (leb 2 n) p h)
 
 -- ---------------------------------------------------------------- what is found in a good area
 

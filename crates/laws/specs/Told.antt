@@ -72,7 +72,7 @@ module _ (m : List ℕ) where
 
 -- ---------------------------------------------------------------- each option of a good area is good
 
-and-good : (x y : Checked) → andThen x y ≡ Good → (x ≡ Good) × (y ≡ Good)
+pub and-good : (x y : Checked) → andThen x y ≡ Good → (x ≡ Good) × (y ≡ Good)
 and-good Good y h = (refl, h)
 and-good (Broken p) y h = let z : _≡_ {A = ℕ} 0 1 = cc in absurd (omega arith)
 
