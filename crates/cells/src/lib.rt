@@ -5,7 +5,7 @@ ghost use lib.Dec.{eqb};
 ghost use lib.ListN.{length, replicate};
 ghost use Rattle.rules.specs.Words.{all, part, splice, sameBytes, num, be, numAt};
 
-fn wide(x: u8) -> u64
+pub fn wide(x: u8) -> u64
     ensures { λ r. ⌜ (r ≡ x) × (r < 256) ⌝ }
 {
     x as u64

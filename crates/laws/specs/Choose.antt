@@ -142,7 +142,7 @@ module _ (s : Settings) (rs : List Record) (a : ℕ) (zp : zeroAfter (s .pool) �
   first-place = eq-eqb _ _ (finer (s .pool .bits) (s .pool .length) a le (eqb-true _ 0 zp))
 
   -- the pool has 2 ^ (a - P) places of length a
-  places : size (s .pool .length) ≡ 2 ^ (a - s .pool .length) * size a
+  pub places : size (s .pool .length) ≡ 2 ^ (a - s .pool .length) * size a
   places =
       let e : (128 - s .pool .length) - (128 - a) ≡ a - s .pool .length = omega arith in
       size-split (s .pool .length) a le ∙ ap (λ (k : ℕ). 2 ^ k * size a) e

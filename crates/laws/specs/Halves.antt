@@ -69,7 +69,7 @@ front-none p q a h g z = eq-eqb _ _ (nothing p h ∙ sym (nothing q g))
     nothing : (x : ℕ) → x < 2 ^ 64 → front (x * 2 ^ 64) a ≡ 0
     nothing x l = rw z (half-front x 0 (omega arith) ∙ div-eq-of-lt l)
 
-zero-times : (z : ℕ) → eqb (z * 2 ^ 64) 0 ≡ eqb z 0
+pub zero-times : (z : ℕ) → eqb (z * 2 ^ 64) 0 ≡ eqb z 0
 zero-times z = same-test (z * 2 ^ 64) 0 z 0 (λ e. omega arith) (λ e. omega arith)
 
 pub zero-all : (p a : ℕ) → 64 ≤ a → zeroAfter (prefix (p * 2 ^ 64) a) ≡ true

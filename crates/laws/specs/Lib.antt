@@ -27,3 +27,10 @@ pub mod Lone
 pub mod Sent
 pub mod Said
 pub mod Represent
+pub mod Records
+pub mod Places
+pub mod Choosing
+pub mod InPlace
+pub mod One
+pub mod Change
+pub mod Writes

@@ -44,7 +44,7 @@ module _ {A : Type 0} where
   unfolding part splice
   part-splice i n e l q h = rw (drop-at (take i l) (e ++ drop (i + length e) l) i (length-take-le i l h)) (take-at e (drop (i + length e) l) n q)
 
-  drop-take : (j i : ℕ) (l : List A) → drop j (take i l) ≡ take (i - j) (drop j l)
+  pub drop-take : (j i : ℕ) (l : List A) → drop j (take i l) ≡ take (i - j) (drop j l)
   drop-take zero i l = rw sub-zero
   drop-take (suc j) zero l = rw zero-sub
   drop-take (suc j) (suc i) [] = sym (take-nil (suc i - suc j))

@@ -205,7 +205,7 @@ module _ (q : Prefix) (x a : ℕ) (zq : zeroAfter q ≡ true) (zx : zeroAfter (p
 -- ---------------------------------------------------------------- the upper half
 
 -- a prefix of at most 64 bits by the upper half of its bits
-half-size : (a : ℕ) → a ≤ 64 → size a ≡ 2 ^ (64 - a) * 2 ^ 64
+pub half-size : (a : ℕ) → a ≤ 64 → size a ≡ 2 ^ (64 - a) * 2 ^ 64
 half-size a h = let e : 128 - a ≡ 64 - a + 64 = omega arith in ap (λ (k : ℕ). 2 ^ k) e ∙ pow-add 2 (64 - a) 64
 
 pub half-front : (p a : ℕ) → a ≤ 64 → front (p * 2 ^ 64) a ≡ p / 2 ^ (64 - a)

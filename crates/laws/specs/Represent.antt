@@ -118,7 +118,7 @@ module _ (s : Settings) (r : Record) (pool : fits (s .pool) ≡ true) (good : go
 -- ---------------------------------------------------------------- a table
 
 -- records, one after another, each read back
-sized : (s : Settings) → fits (s .pool) ≡ true → (rs : List Record) → all (goodRecord s) rs ≡ true → Sized (map recordBytes rs)
+pub sized : (s : Settings) → fits (s .pool) ≡ true → (rs : List Record) → all (goodRecord s) rs ≡ true → Sized (map recordBytes rs)
 sized s f [] e = no-more
 sized s f (r ∷ rs) e = let p = both (goodRecord s r) (all (goodRecord s) rs) e in one-more (record-size s r f (p .0)) (sized s f rs (p .1))
 
@@ -136,7 +136,7 @@ module _ (t : Table) (sd : Sound t) where
   good : Good s
   good = good-facts s (sd .settings)
 
-  own-few : length (s .own) ≤ 130
+  pub own-few : length (s .own) ≤ 130
   own-few = leb-true _ 130 (both (leb 3 (length (s .own))) (leb (length (s .own)) 130) (good .own) .1)
 
   pub header-size : length (headerBytes t) ≡ 176

@@ -23,7 +23,7 @@ use Rattle.rules.specs.declared.Found.the-variants.{At}
 use Rattle.rules.specs.declared.Checked.the-variants.{Good}
 use Rattle.laws.specs.Tests.{both, neither}
 use Rattle.laws.specs.Told.{is-good}
-use Rattle.wire.specs.Values.{exceptOf}
+use Rattle.values.specs.Values.{exceptOf}
 use Rattle.lone.specs.Answers.{loneRefusal, PdHead, pdHead}
 
 -- ---------------------------------------------------------------- refused or given

@@ -15,7 +15,7 @@ use Rattle.rules.specs.Message.{Listed, Ia}
 use Rattle.rules.specs.Lone.{alone, Summary}
 use Rattle.rules.specs.declared.Level.{Level}
 use Rattle.rules.specs.declared.Found.{Found}
-use Rattle.wire.specs.Values.{listedOf}
+use Rattle.values.specs.Values.{listedOf}
 use Rattle.lone.specs.declared.IdRead as id
 use Rattle.lone.specs.declared.IdRead.the-variants as id′
 use Rattle.lone.specs.declared.RequestRead as request

@@ -11,7 +11,7 @@ use rules::Checked;
 use rules::Found;
 use rules::Level;
 use wire::check::check_one;
-use wire::content::IaPrefix;
+use values::IaPrefix;
 use wire::walk::u8_at;
 use wire::walk::u16_at;
 

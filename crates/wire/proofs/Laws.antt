@@ -23,8 +23,8 @@ use Rattle.laws.specs.Steps.{any-map}
 use Rattle.laws.specs.Exclude as exclude
 use Rattle.wire.specs.Client.{clientStretch}
 use Rattle.wire.specs.Says.{codeOf, saying}
-use Rattle.wire.specs.Values.{exceptOf, leaseOf, listedOf}
-use Rattle.wire.specs.declared.content.IaPrefix.{IaPrefix}
+use Rattle.values.specs.Values.{exceptOf, leaseOf, listedOf}
+use Rattle.values.specs.declared.IaPrefix.{IaPrefix}
 use Rattle.wire.specs.declared.says.Sought.{Sought}
 use Rattle.wire.specs.declared.says.Sought.the-variants.{Asking, Status}
 

@@ -1,3 +1,2 @@
 pub mod Client
 pub mod Says
-pub mod Values

@@ -10,20 +10,11 @@ ghost use Rattle.rules.specs.Message.{exceptAt, listedAt};
 ghost use Rattle.rules.specs.declared.Found.the-variants.{At};
 ghost use Rattle.rules.specs.declared.Checked.the-variants.{Good};
 ghost use Rattle.laws.specs.Formed.{PrefixFormed};
-ghost use Rattle.wire.specs.Values.{exceptOf, listedOf};
+ghost use Rattle.values.specs.Values.{exceptOf, listedOf};
 use crate::find::find;
 use crate::walk::u8_at;
 use rules::Found;
-
-// An IA Prefix without its statuses; where cut is 0 it has no excluded prefix.
-pub struct IaPrefix {
-    pub preferred: u32,
-    pub valid: u32,
-    pub length: usize,
-    pub bits: [u8; 16],
-    pub cut: usize,
-    pub out: [u8; 16],
-}
+use values::IaPrefix;
 
 // An excluded prefix and its length, or 0 for none.
 pub struct Cut {

@@ -10,7 +10,7 @@ use Rattle.rules.specs.Words.{num}
 use Rattle.rules.specs.declared.Found.the-variants.{At}
 use Rattle.laws.specs.Formed.{good-exclude}
 use Rattle.laws.specs.Walk.{nth-inside}
-use Rattle.wire.specs.Values.{exceptOf}
+use Rattle.values.specs.Values.{exceptOf}
 use Rattle.wire.proofs.content.cut_in.Statement.{statement}
 use Rattle.wire.proofs.content.cut_in.Tie as tie
 

@@ -1,0 +1,123 @@
+-- Soundness as the code asks for it: what each return of a function says of the definition.
+--   setup-read, header-read                         the settings as numbers, and what is asked of them
+--   row-agrees, numbers-read                        what they ask of a record
+--   duid-..                                         a DUID behind its length
+--   iaids-differ, lengths-differ, bytes-compared    two records' identities, one test after another
+--   sound-size                                      a sound table has one size
+--   other-size, too-many, sound-read                the whole table
+use mathlib.Core.Path.{_≡_, sym, ap, _∙_}
+use mathlib.Core.Bool.{Bool, true, false, not, _&&_}
+use mathlib.Core.List.{List, []}
+use Prim.Native.Nat.{ℕ, _+_, _-_, _≤_, _<_, _^_}
+use native.Mathlib.Omega.{arith}
+use lib.Dec.{eqb, leb, ltb}
+use lib.ListN.{length, take, drop}
+use borrow.Author.Tests.{eq-eqb, ne-eqb, le-leb, lt-leb}
+use Rattle.rules.specs.Words.{all, noTwo, from, part, sameBytes, numAt}
+use Rattle.rules.specs.Prefix.{zeroAfter, inside}
+use Rattle.rules.specs.Clock.{goodEnd}
+use Rattle.rules.specs.Identity.{sameIdentity}
+use Rattle.rules.specs.Table.{mayStand}
+use Rattle.rules.specs.TableBytes.{tableSize, place, flag, rowAt, recordAt, settingsOf, countOf, tableOf, soundBytes}
+use Rattle.laws.specs.Tests.{false-true}
+use Rattle.laws.specs.Parts.{length-part}
+use Rattle.laws.specs.Numbers.{Bytes}
+use Rattle.laws.specs.Same.{same-bool}
+use Rattle.laws.specs.Represent.{sound-bytes, table-length}
+use Rattle.laws.specs.Flat.{duidIn, goodNumbers, goodRow, goodHeader, flatSound, flat-sound}
+use Rattle.laws.specs.InPlace.{duidLength, duidAt, owner-length, other-length, same-owner-read}
+use Rattle.prefix.specs.Upper.{upper}
+use Rattle.sound.specs.Setup.{setupOf, Agrees}
+use Rattle.sound.specs.declared.Setup.{Setup}
+
+-- ---------------------------------------------------------------- the settings
+
+module _ (b : List ℕ) where
+  pub setup-read : {p w h d x q v : ℕ} → p ≡ numAt b 10 8 → w ≡ numAt b 18 1 → h ≡ numAt b 19 1 → d ≡ numAt b 20 1 → x ≡ numAt b 21 1 → q ≡ numAt b 22 4 → v ≡ numAt b 26 4
+      → Agrees (record { pool = p; width = w; shortest = h; standard = d; preferred = q; valid = v; exclusion = not (eqb x 0) }) b
+  unfolding settingsOf
+  setup-read p w h d x q v = λ j. record {
+    pool = upper (p j) (w j);
+    shortest = h j;
+    standard = d j;
+    preferred = q j;
+    valid = v j;
+    exclusion = not (eqb (x j) 0);
+    own = settingsOf b .own;
+  }
+
+module _ (s : Setup) (b : List ℕ) (a : Agrees s b) where
+  pub header-read : goodHeader b
+      ≡ leb 32 (s .width) && leb (s .width) 56 && zeroAfter (upper (s .pool) (s .width)) && leb (s .width) (s .shortest) && leb (s .shortest) (s .standard)
+      && leb (s .standard) 60 && leb 120 (s .preferred) && leb (s .preferred) (s .valid) && leb (numAt b 21 1) 1
+      && duidIn 31 (numAt b 30 1) b && all (eqb 0) (part 161 15 b)
+  unfolding goodHeader settingsOf
+  header-read =
+      rw (ap (λ k. k .pool .bits) a, ap (λ k. k .pool .length) a, ap (λ k. k .shortest) a, ap (λ k. k .standard) a, ap (λ k. k .preferred) a, ap (λ k. k .valid) a)
+
+  -- a record's goodness does not ask for the box's own DUID
+  pub row-agrees : (e : List ℕ) → goodRow (settingsOf b) e ≡ goodRow (setupOf s []) e
+  unfolding goodRow
+  row-agrees e = ap (λ k. goodRow k e) (sym a)
+
+pub numbers-read : (s : Setup) (u a x end : ℕ) {i z : Bool} {f : ℕ} → i ≡ inside (upper u a) (upper (s .pool) (s .width)) → z ≡ zeroAfter (upper u a) → f ≡ flag (s .exclusion)
+    → i && leb (s .shortest) a && leb a 60 && z && leb x f && goodEnd end ≡ goodNumbers (setupOf s []) u a x end
+numbers-read s u a x end i z f = rw (i, z, f)
+
+-- ---------------------------------------------------------------- a DUID
+
+module _ (at n : ℕ) (b : List ℕ) where
+  pub duid-short : n < 3 → false ≡ duidIn at n b
+  duid-short h = rw (lt-leb 3 n h)
+
+  pub duid-long : 3 ≤ n → 130 < n → false ≡ duidIn at n b
+  duid-long h g = rw (le-leb 3 n h, lt-leb n 130 g)
+
+  pub duid-between : {r : Bool} → 3 ≤ n → n ≤ 130 → r ≡ all (eqb 0) (part (at + n) (130 - n) b) → r ≡ duidIn at n b
+  duid-between h g e = rw (le-leb 3 n h, le-leb n 130 g) e
+
+-- ---------------------------------------------------------------- two identities
+
+-- a part of the table, as it is lent
+pub lent : (at n : ℕ) (t : List ℕ) → take (at + n - at) (drop at t) ≡ part at n t
+unfolding part
+lent at n t = let k : at + n - at ≡ n = omega arith in rw k
+
+module _ (t : List ℕ) (i j : ℕ) where
+  abbrev sameOwner : Bool
+  sameOwner = sameIdentity (recordAt t i .owner) (recordAt t j .owner)
+
+  module _ (x y : ℕ) (ex : x ≡ numAt t (place i + 1) 4) (ey : y ≡ numAt t (place j + 1) 4) where
+    pub iaids-differ : (x ≡ y → ⊥) → false ≡ sameOwner
+    iaids-differ h = sym (same-owner-read t i j ∙ rw (← ex, ← ey, ne-eqb x y h))
+
+    module _ (m n : ℕ) (em : m ≡ duidLength t i) (en : n ≡ duidLength t j) (hi : i < 256) (hj : j < 256) (room : tableSize ≤ length t) (g : x ≡ y) where
+      pub lengths-differ : (m ≡ n → ⊥) → false ≡ sameOwner
+      lengths-differ h =
+          let p = owner-length t i hi room in
+          let q = owner-length t j hj room in
+          sym (same-owner-read t i j ∙ rw (← ex, ← ey, eq-eqb x y g) (other-length (duidAt t i) (duidAt t j) (λ e. h (em ∙ sym p ∙ e ∙ q ∙ sym en))))
+
+      pub bytes-compared : {d : List ℕ} {r : Bool} → m ≡ n → d ≡ part (place j + 23) n t → r ≡ sameBytes (part (place i + 23) (length d) t) d → r ≡ sameOwner
+      bytes-compared h p e =
+          let l : length (part (place j + 23) n t) ≡ m = length-part (place j + 23) n t (omega arith) ∙ sym h in
+          (rw (p, l) at e) ∙ sym (same-owner-read t i j ∙ rw (← ex, ← ey, ← em, ← en, eq-eqb x y g))
+
+-- ---------------------------------------------------------------- the table
+
+module _ (b : List ℕ) where
+  pub sound-size : soundBytes b ≡ true → length b ≡ tableSize
+  sound-size h = let p = sound-bytes b h in sym (ap length (p .1)) ∙ table-length (tableOf b) (p .0)
+
+  pub other-size : (length b ≡ tableSize → ⊥) → false ≡ soundBytes b
+  other-size h = same-bool false (soundBytes b) (λ e. absurd (false-true e)) (λ e. absurd (h (sound-size e)))
+
+  module _ (y : Bytes b) (n : ℕ) (e : n ≡ countOf b) (s : length b ≡ tableSize) where
+    pub too-many : 256 < n → false ≡ soundBytes b
+    unfolding flatSound
+    too-many h = sym (flat-sound b y s ∙ rw (← e, lt-leb n 256 h))
+
+    pub sound-read : {h g w z : Bool} {l : ℕ} → n ≤ 256 → h ≡ goodHeader b → g ≡ all (goodRow (settingsOf b)) (from (rowAt b) 0 n) → w ≡ noTwo mayStand (from (recordAt b) 0 n)
+        → z ≡ all (eqb 0) (part (place n) (tableSize - place n) b) → l ≡ numAt b 0 8 → h && g && w && z && ltb l (2 ^ 48) ≡ soundBytes b
+    unfolding flatSound
+    sound-read m h g w z l = rw (h, g, w, z, l) (sym (flat-sound b y s ∙ rw (← e, le-leb n 256 m)))
