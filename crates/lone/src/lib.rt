@@ -10,8 +10,8 @@ ghost use Rattle.lone.specs.Answers.{loneRefusal, idValue, requestValue,
 use rules::Checked;
 use rules::Found;
 use rules::Level;
-use wire::check::check_one;
 use values::IaPrefix;
+use wire::check::check_one;
 use wire::walk::u8_at;
 use wire::walk::u16_at;
 

@@ -3,11 +3,21 @@ use libc::STDOUT_FILENO;
 use lone::IdRead;
 use lone::MessageRead;
 
-const HOME: [u8; 16] = [0x20, 0x01, 0x0d, 0xb8, 0xde, 0xad, 0xbe, 0xe0, 0, 0, 0, 0, 0, 0, 0, 0];
-const LAST: [u8; 16] = [0x20, 0x01, 0x0d, 0xb8, 0xde, 0xad, 0xbe, 0xef, 0, 0, 0, 0, 0, 0, 0, 0];
-const HALF: [u8; 16] = [0x20, 0x01, 0x0d, 0xb8, 0xde, 0xad, 0xbe, 0xef, 0x80, 0, 0, 0, 0, 0, 0, 0];
-const ELSEWHERE: [u8; 16] = [0x20, 0x01, 0x0d, 0xb8, 0x00, 0x07, 0, 0, 0, 0, 0, 0, 0, 0, 0, 0];
-const THERE: [u8; 16] = [0x20, 0x01, 0x0d, 0xb8, 0x00, 0x07, 0x12, 0x34, 0, 0, 0, 0, 0, 0, 0, 0];
+const HOME: u64 = 0x2001_0db8_dead_bee0;
+
+const LAST: u64 = 0x2001_0db8_dead_beef;
+
+const ELSEWHERE: u64 = 0x2001_0db8_0007_0000;
+
+const THERE: u64 = 0x2001_0db8_0007_1234;
+
+// The bits of a prefix, from its two halves.
+fn bits(upper: u64, lower: u64) -> [u8; 16] {
+    let mut b = [0u8; 16];
+    cells::put(&mut b, 0, 8, upper);
+    cells::put(&mut b, 8, 8, lower);
+    b
+}
 
 fn say(text: &[u8]) {
     io::write_all(STDOUT_FILENO, text);
@@ -26,16 +36,16 @@ fn say_hex(b: &[u8]) {
 }
 
 // What a PD Exclude inside p of length a reads as: the excluded prefix, or the number that refuses it.
-fn exclude(name: &[u8], p: [u8; 16], a: usize, text: &[u8]) {
-    let r = lone::read_exclude(p, a, text);
+fn exclude(name: &[u8], p: u64, a: usize, text: &[u8]) {
+    let r = lone::read_exclude(bits(p, 0), a, text);
     let no = r.refusal;
-    let bits = r.bits;
+    let out = r.bits;
     say(name);
     say(b" ");
     say_hex(text);
     if no == 0 {
         say(b" reads as ");
-        say_hex(&bits);
+        say_hex(&out);
         say(b"/");
         say_number(r.length);
     } else {
@@ -47,9 +57,9 @@ fn exclude(name: &[u8], p: [u8; 16], a: usize, text: &[u8]) {
 
 // What the PD Exclude for e of length b inside p of length a is written as, into eight bytes of ee: the room, or the number
 // that refuses it.
-fn write(name: &[u8], p: [u8; 16], a: usize, e: [u8; 16], b: usize) {
+fn write(name: &[u8], p: u64, a: usize, e: [u8; 16], b: usize) {
     let mut room = [0xeeu8; 8];
-    let word = print::lone::write_exclude(&mut room, p, a, e, b);
+    let word = print::lone::write_exclude(&mut room, bits(p, 0), a, e, b);
     say(name);
     if word < 65536 {
         say(b" writes ");
@@ -71,7 +81,16 @@ fn message(bytes: &[u8]) {
             say(b" bytes is refused: ");
             say_number(no as usize);
         }
-        MessageRead::Message { kind: _, number: _, clients, client: _, servers: _, server: _, pds: _, pd: _ } => {
+        MessageRead::Message {
+            kind: _,
+            number: _,
+            clients,
+            client: _,
+            servers: _,
+            server: _,
+            pds: _,
+            pd: _,
+        } => {
             say(b" bytes is read, with Client IDs: ");
             say_number(clients);
         }
@@ -108,12 +127,12 @@ fn examples() {
 }
 
 fn writings() {
-    write(b"E1", HOME, 59, LAST, 64);
-    write(b"E2", HOME, 59, HALF, 65);
-    write(b"E4", HOME, 59, HOME, 59);
-    write(b"E6", ELSEWHERE, 48, THERE, 64);
-    write(b"another's", ELSEWHERE, 48, LAST, 64);
-    write(b"nine bytes", ELSEWHERE, 48, THERE, 81);
+    write(b"E1", HOME, 59, bits(LAST, 0), 64);
+    write(b"E2", HOME, 59, bits(LAST, 0x8000_0000_0000_0000), 65);
+    write(b"E4", HOME, 59, bits(HOME, 0), 59);
+    write(b"E6", ELSEWHERE, 48, bits(THERE, 0), 64);
+    write(b"another's", ELSEWHERE, 48, bits(LAST, 0), 64);
+    write(b"nine bytes", ELSEWHERE, 48, bits(THERE, 0), 81);
 }
 
 // Zeros read as type 0 and empty options of code 0, which the reader skips.
