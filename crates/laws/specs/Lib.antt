@@ -34,3 +34,8 @@ pub mod InPlace
 pub mod One
 pub mod Change
 pub mod Writes
+pub mod Fields
+pub mod RouterFields
+pub mod RouterFlat
+pub mod RouterRepresent
+pub mod RouterChange

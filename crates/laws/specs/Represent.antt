@@ -31,7 +31,7 @@ use mathlib.Core.Logic.{_⊎_, inl, inr}
 -- ---------------------------------------------------------------- a record
 
 -- an end has eight bytes
-end-fits : (e : ℕ) → goodEnd e ≡ true → e < 2 ^ 64
+pub end-fits : (e : ℕ) → goodEnd e ≡ true → e < 2 ^ 64
 end-fits e g = by (either (ltb e (2 ^ 49)) (eqb e never) g)
   where
     by : (ltb e (2 ^ 49) ≡ true) ⊎ (eqb e never ≡ true) → e < 2 ^ 64

@@ -3,22 +3,20 @@ use mathlib.Core.Path.{_≡_, refl, ap, sym, _∙_}
 use mathlib.Core.Bool.{Bool, true, false, cond, not, _&&_, _||_}
 use mathlib.Core.List.{List, [], _∷_, _++_, map}
 use mathlib.Core.Option.{none, some}
-use Prim.Native.Nat.{ℕ, zero, suc, _+_, _-_, _*_, _^_, _≤_, _<_}
-use native.Mathlib.Numerals.{add-one}
-use native.Mathlib.Nat.{zero-add}
+use Prim.Native.Nat.{ℕ, _+_, _*_, _^_, _≤_, _<_}
 use native.Mathlib.Omega.{arith}
-use borrow.Author.Tests.{eq-eqb, ne-eqb, lt-ltb, le-ltb, le-leb, leb-true, ltb-true, ltb-false, not-true, not-false}
+use borrow.Author.Tests.{lt-ltb, le-ltb, le-leb, leb-true, ltb-true, ltb-false, not-true, not-false}
 use lib.Dec.{eqb, leb, ltb}
-use lib.ListN.{length, getD, take, drop, length-append, drop-of-length-le}
-use lib.Seq.{drop-cons, getD-take, length-take-le, take-all}
-use Rattle.rules.specs.Words.{all, consIf, splice, num, be16}
-use Rattle.rules.specs.Refusals.{Res, refuse, done, unless}
+use lib.ListN.{length, getD, take, drop, length-append}
+use lib.Seq.{take-all}
+use Rattle.rules.specs.Words.{all, consIf, num, be16}
+use Rattle.rules.specs.Refusals.{done, unless}
 use Rattle.rules.specs.Prefix.{Prefix, prefix, fits, bytesFor, excludeBytes, encodable, leaseEncodable}
 use Rattle.rules.specs.Options.{option, printed}
 use Rattle.rules.specs.Message.{Ia, nameOf, statusItem, listedBytes, iaBytes}
 use Rattle.rules.specs.Lone.{write, listedEncodes, iaEncodes}
-use Rattle.rules.specs.Lent.{Ended, ended, written}
-use Rattle.laws.specs.Tests.{both, both-made}
+use Rattle.rules.specs.Lent.{ended, written}
+use Rattle.laws.specs.Tests.{both}
 use Rattle.laws.specs.Loops.{all-map, all-sub}
 use Rattle.laws.specs.Bits.{Sixteen, sixteen-lt}
 use Rattle.laws.specs.Exclude.{encodes}
@@ -29,9 +27,9 @@ use Rattle.laws.specs.Writes.{Wrote, wrote-whole}
 use Rattle.values.specs.Values.{exceptOf, leaseOf, listedOf, leaseEncodes, firstListed, iaOf, Able}
 use Rattle.values.specs.declared.IaPrefix.{IaPrefix}
 use Rattle.values.specs.declared.Pd.{Pd}
-use Rattle.print.specs.Bytes.{saidBytes, cutBytes, prefixBytes, firstBytes}
+use Rattle.print.specs.Bytes.{prefixBytes}
 use Rattle.print.specs.Lone.{refusalOf, Trimmed}
-use Rattle.print.proofs.Laws.{status-named, status-nameless, exclude-size, listed-few, cut-none, cut-some, prefix-size, blank, restBytes, rest-first, first-few, said-few, ia-size}
+use Rattle.print.proofs.Laws.{status-named, status-nameless, exclude-size, listed-few, cut-none, cut-some, prefix-size, blank, restBytes, first-turn, first-end, rest-first, first-few, said-few, ia-size}
 
 -- ---------------------------------------------------------------- how long they are
 
@@ -86,9 +84,7 @@ restEncodes i n xs = all listedEncodes (map (λ x. listedOf x []) (drop i (take 
 
 module _ (n i : ℕ) (xs : List IaPrefix) (h : n ≤ length xs) where
   encodes-turn : {b : Bool} → i < n → b ≡ listedEncodes (listedOf (getD xs i blank) []) → restEncodes i n xs ≡ b && restEncodes (i + 1) n xs
-  encodes-turn l e =
-      let k : i < length (take n xs) = rw (length-take-le n xs h) l in
-      rw (drop-cons (take n xs) i blank k, getD-take n xs i blank l, add-one, e)
+  encodes-turn l e = rw (first-turn n i xs h l, e)
 
   pub encodes-stop : {b : Bool} → i < n → b ≡ listedEncodes (listedOf (getD xs i blank) []) → not b ≡ true → restEncodes i n xs ≡ false
   encodes-stop {b} l e t = encodes-turn l e ∙ rw (not-true b t)
@@ -97,7 +93,7 @@ module _ (n i : ℕ) (xs : List IaPrefix) (h : n ≤ length xs) where
   encodes-go {b} l e t = encodes-turn l e ∙ rw (not-false b t)
 
   pub encodes-end : n ≤ i → restEncodes i n xs ≡ true
-  encodes-end l = let k : length (take n xs) ≤ i = rw (length-take-le n xs h) l in rw (drop-of-length-le (take n xs) {i = i} k)
+  encodes-end l = rw (first-end n i xs h l)
 
 -- what has an encoding isn't too long
 able-few : (able : Bool) (s : List ℕ) → (able ≡ true → length s ≤ 65535) → able && leb (length s) 65535 ≡ able
@@ -118,6 +114,10 @@ ia-few : (d : Pd) → Able d → length (iaBytes (iaOf d)) ≤ 281
 ia-few d a =
     omega
     (arith, ia-size d, option-length 25 (iaBytes (iaOf d)), first-few (d .count) (d .prefixes) (a .prefixes) (a .count), said-few (d .says) (d .status))
+
+-- past its end there is no more to take
+pub take-over : {A : Type 0} (m n : ℕ) (l : List A) → length l ≤ m → length l ≤ n → take m l ≡ take n l
+take-over m n l h g = take-all m l h ∙ sym (take-all n l g)
 
 -- d, trimmed to e
 module _ (d e : Pd) (t : Trimmed d e) {r : Bool} (q : r ≡ all listedEncodes (firstListed (e .count) (e .prefixes)) && ltb (e .status) 65536) where
@@ -151,9 +151,6 @@ module _ (d e : Pd) (t : Trimmed d e) {r : Bool} (q : r ≡ all listedEncodes (f
       where
         few : iaEncodes (iaOf d) ≡ true → length (iaBytes (iaOf d)) ≤ 65535
         few h = rw (← t .same) (omega (arith, ia-few e (pd-free h)))
-
-pub take-over : {A : Type 0} (m n : ℕ) (l : List A) → length l ≤ m → length l ≤ n → take m l ≡ take n l
-take-over m n l h g = take-all m l h ∙ sym (take-all n l g)
 
 -- ---------------------------------------------------------------- what a writer leaves
 

@@ -1,8 +1,8 @@
 -- Laws that only these proofs need: the bytes of a level by the parts that are written, and how long they are.
 use mathlib.Core.Path.{_≡_, refl, ap, sym, _∙_}
-use mathlib.Core.Bool.{Bool, true, false, _&&_}
+use mathlib.Core.Bool.{Bool, true, false}
 use mathlib.Core.List.{List, [], _∷_, _++_, map, append-assoc, append-nil}
-use Prim.Native.Nat.{ℕ, zero, suc, _+_, _-_, _*_, _^_, _≤_, _<_}
+use Prim.Native.Nat.{ℕ, zero, suc, _+_, _^_, _≤_, _<_}
 use native.Mathlib.Numerals.{add-one}
 use native.Mathlib.Omega.{arith}
 use borrow.Author.Tests.{eq-eqb, ne-eqb, leb-true}
@@ -14,7 +14,7 @@ use Rattle.rules.specs.Prefix.{Prefix, prefix, fits, bytesFor, excludeBytes, en
 use Rattle.rules.specs.Options.{option, item, printed}
 use Rattle.rules.specs.Message.{nameOf, statusItem, listedBytes, listedItem, iaBytes, iaItem, asksItems, items, print}
 use Rattle.laws.specs.Tests.{both}
-use Rattle.laws.specs.Every.{Every, every-all, every-map, every-weaker}
+use Rattle.laws.specs.Every.{every-all, every-map, every-weaker}
 use Rattle.laws.specs.Exclude.{Encodes, encodes}
 use Rattle.laws.specs.Stands.{option-length}
 use Rattle.laws.specs.Round.{exclude-length, lease-fits}
@@ -97,15 +97,21 @@ unfolding restBytes firstBytes
 rest-all n xs = refl
 
 module _ (n i : ℕ) (xs : List IaPrefix) (h : n ≤ length xs) where
-  pub rest-first : i < n → restBytes i n xs ≡ prefixBytes (getD xs i blank) ++ restBytes (i + 1) n xs
-  unfolding restBytes prefixBytes printed
-  rest-first l =
+  pub first-turn : i < n → drop i (take n xs) ≡ getD xs i blank ∷ drop (i + 1) (take n xs)
+  first-turn l =
       let k : i < length (take n xs) = rw (length-take-le n xs h) l in
       rw (drop-cons (take n xs) i blank k, getD-take n xs i blank l, add-one)
 
+  pub first-end : n ≤ i → drop i (take n xs) ≡ []
+  first-end l = drop-of-length-le (take n xs) {i = i} (rw (length-take-le n xs h) l)
+
+  pub rest-first : i < n → restBytes i n xs ≡ prefixBytes (getD xs i blank) ++ restBytes (i + 1) n xs
+  unfolding restBytes prefixBytes printed
+  rest-first l = rw (first-turn l)
+
   pub rest-none : n ≤ i → restBytes i n xs ≡ []
   unfolding restBytes printed
-  rest-none l = let k : length (take n xs) ≤ i = rw (length-take-le n xs h) l in rw (drop-of-length-le (take n xs) {i = i} k)
+  rest-none l = rw (first-end l)
 
   -- what is left has room for the first of it
   pub rest-room : {p at : ℕ} {s t d : List ℕ} → i < n → Left p (restBytes i n xs) t at s d → at + length s ≤ length d → length t ≡ length d

@@ -2,14 +2,16 @@
 // 65,536, plus the length of what was written; a refusal writes nothing.
 ghost use mathlib.Core.Path.{_≡_};
 ghost use mathlib.Core.List.{[]};
-ghost use Prim.Native.Nat.{ℕ, _<_};
-ghost use lib.ListN.{length};
+ghost use Prim.Native.Nat.{_<_};
 ghost use Rattle.rules.specs.Words.{num};
 ghost use Rattle.rules.specs.Prefix.{prefix};
 ghost use Rattle.rules.specs.Lone.{writeId, writeRequest, writeStatus, writeExclude, writePrefix, writePd};
 ghost use Rattle.rules.specs.Lent.{ended, written};
 ghost use Rattle.values.specs.Values.{listedOf, iaOf};
 ghost use Rattle.print.specs.Lone.{refusalOf};
+use crate::able::encodes;
+use crate::able::pd_encodes;
+use crate::able::trimmed;
 use crate::message::put_asks;
 use crate::pd::put_exclude;
 use crate::pd::put_pd;
@@ -20,9 +22,6 @@ use crate::size::exclude_size;
 use crate::size::pd_size;
 use crate::size::prefix_size;
 use crate::size::status_size;
-use crate::test::encodes;
-use crate::test::pd_encodes;
-use crate::test::trimmed;
 use values::IaPrefix;
 use values::Pd;
 

@@ -1,7 +1,7 @@
 // An IA_PD with its IA Prefixes and their PD Excludes.
 ghost use mathlib.Core.Path.{_≡_};
 ghost use mathlib.Core.Bool.{true};
-ghost use Prim.Native.Nat.{ℕ, _+_, _≤_, _<_};
+ghost use Prim.Native.Nat.{_+_, _≤_, _<_};
 ghost use lib.ListN.{length, take};
 ghost use Rattle.rules.specs.Words.{all, num};
 ghost use Rattle.rules.specs.Prefix.{prefix, zeroAfter, excludeBytes};

@@ -24,44 +24,9 @@ use Rattle.laws.specs.Tests.{both, both-made, neither, either, false-true}
 use Rattle.laws.specs.Refusals.{unless-done, one, two}
 use Rattle.laws.specs.Kinds.{served-type, type-kind, type-served, answer-unserved, one-stands, bytes-true, identity-path}
 use Rattle.laws.specs.Every.{Every}
+use Rattle.laws.specs.RouterFields.{Sound, sound-facts}
 use Rattle.laws.specs.Round.{FineListed, FineIa, Fine, print-read}
 use Rattle.promises.specs.Readings.{Up, Down, hold, Held, Open, Busy, holding, asking, Fit, Moves, Began, Resent, Got, Fresh}
-
--- ---------------------------------------------------------------- a sound state
-
-pub record Sound (r : Router) : Type 0 where
-  pub asker : goodAsker (r .me) (r .wanted) ≡ true
-  pub started-last : r .started ≤ r .last
-  pub began-last : r .began ≤ r .last
-  pub freed-last : r .freed ≤ r .last
-  pub time : r .last < 2 ^ 48
-  pub small : r .next < 2 ^ 24
-  pub server : goodServer (r .server) ≡ true
-  pub held : goodHold (r .server) (r .held) ≡ true
-  pub exchange : goodExchange (r .server) (r .exchange) ≡ true
-
-pub sound-facts : (r : Router) → soundRouter r ≡ true → Sound r
-unfolding soundRouter
-sound-facts r e =
-    let a = both _ (goodExchange (r .server) (r .exchange)) e in
-    let b = both _ (goodHold (r .server) (r .held)) (a .0) in
-    let c = both _ (goodServer (r .server)) (b .0) in
-    let d = both _ (ltb (r .next) (2 ^ 24)) (c .0) in
-    let f = both _ (ltb (r .last) (2 ^ 48)) (d .0) in
-    let g = both _ (leb (r .freed) (r .last)) (f .0) in
-    let h = both _ (leb (r .began) (r .last)) (g .0) in
-    let i = both (goodAsker (r .me) (r .wanted)) (leb (r .started) (r .last)) (h .0) in
-    record {
-      asker = i .0;
-      started-last = leb-true _ _ (i .1);
-      began-last = leb-true _ _ (h .1);
-      freed-last = leb-true _ _ (g .1);
-      time = ltb-true _ _ (f .1);
-      small = ltb-true _ _ (d .1);
-      server = c .1;
-      held = b .1;
-      exchange = a .1;
-    }
 
 -- ---------------------------------------------------------------- the message of an exchange
 

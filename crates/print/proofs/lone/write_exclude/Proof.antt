@@ -37,14 +37,19 @@ unfolding writeExclude
 returns c = lone-refused (judge (c .before)) (c .if1 .taken)
 
 put-exclude-requires : tie.Need-put-exclude-requires
-put-exclude-requires c κs = let a = lone-able (judge (c .before .before)) (c .before .if1 .left) in let e = encodes _ _ (a .0) in (le-of-lt (e .more), e .most, e .clear, rw zero-add (a .2))
+put-exclude-requires c κs =
+    let a = lone-able (judge (c .before .before)) (c .before .if1 .left) in
+    let e = encodes _ _ (a .0) in
+    (le-of-lt (e .more), e .most, e .clear, rw zero-add (a .2))
 
 same-length : tie.Need-same-length
 same-length c = search needs
 
 returns-2 : tie.Need-returns-2
 unfolding writeExclude
-returns-2 c = lone-written (judge (c .before .before .before .before .before)) (c .before .before .before .before .if1 .left) (c .before .before .put-exclude .ensures)
+returns-2 c =
+    lone-written (judge (c .before .before .before .before .before)) (c .before .before .before .before .if1 .left)
+    (c .before .before .put-exclude .ensures)
 
 pub write-exclude-spec : {M : Type 1} → statement M
 write-exclude-spec =

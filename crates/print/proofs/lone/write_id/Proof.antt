@@ -10,7 +10,9 @@ use Rattle.print.proofs.lone.write_id.Statement.{statement}
 use Rattle.print.proofs.lone.write_id.Tie as tie
 
 judge : (c : tie.After-refusal) → let a = c .before .before .before .args in Judged true (a .code) (now (a .duid)) (now (a .out)) (c .refusal .result)
-judge c = let a = c .before .before .before .args in judged (a .code) (now (a .duid)) (now (a .out)) refl (sym (option-length (a .code) (now (a .duid)))) (c .refusal .ensures .0)
+judge c =
+    let a = c .before .before .before .args in
+    judged (a .code) (now (a .duid)) (now (a .out)) refl (sym (option-length (a .code) (now (a .duid)))) (c .refusal .ensures .0)
 
 add-refusal : tie.Need-add-refusal
 add-refusal c = search needs
@@ -33,7 +35,9 @@ same-length c = search needs
 
 returns-2 : tie.Need-returns-2
 unfolding writeId
-returns-2 c = lone-written (judge (c .before .before .before .before .before)) (c .before .before .before .before .if1 .left) (c .before .before .put-option .ensures)
+returns-2 c =
+    lone-written (judge (c .before .before .before .before .before)) (c .before .before .before .before .if1 .left)
+    (c .before .before .put-option .ensures)
 
 pub write-id-spec : {M : Type 1} → statement M
 write-id-spec =

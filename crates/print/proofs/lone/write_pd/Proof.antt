@@ -51,14 +51,20 @@ unfolding writePd
 returns c = lone-refused (judge (c .before)) (c .if1 .taken)
 
 put-pd-requires : tie.Need-put-pd-requires
-put-pd-requires c κs = let s = c .before .before .before .before .before .before .before in let t = c .before .before .before .before .before .trimmed .ensures in let a = lone-able (judge (c .before .before)) (c .before .if1 .left) in (pd-free _ _ t (c .before .before .before .before .pd-encodes .ensures) (iaid s) (t1 s) (t2 s) (a .0), rw (zero-add, t .same) (a .2))
+put-pd-requires c κs =
+    let s = c .before .before .before .before .before .before .before in
+    let t = c .before .before .before .before .before .trimmed .ensures in
+    let a = lone-able (judge (c .before .before)) (c .before .if1 .left) in
+    (pd-free _ _ t (c .before .before .before .before .pd-encodes .ensures) (iaid s) (t1 s) (t2 s) (a .0), rw (zero-add, t .same) (a .2))
 
 same-length : tie.Need-same-length
 same-length c = search needs
 
 returns-2 : tie.Need-returns-2
 unfolding writePd
-returns-2 c = lone-written (judge (c .before .before .before .before .before)) (c .before .before .before .before .if1 .left) (wrote-as (ap (λ (i : Ia). option 25 (iaBytes i)) (c .before .before .before .before .before .before .before .before .trimmed .ensures .same)) (c .before .before .put-pd .ensures))
+returns-2 c =
+    lone-written (judge (c .before .before .before .before .before)) (c .before .before .before .before .if1 .left)
+    (wrote-as (ap (λ (i : Ia). option 25 (iaBytes i)) (c .before .before .before .before .before .before .before .before .trimmed .ensures .same)) (c .before .before .put-pd .ensures))
 
 pub write-pd-spec : {M : Type 1} → statement M
 write-pd-spec =

@@ -42,7 +42,9 @@ same-length c = search needs
 
 returns-2 : tie.Need-returns-2
 unfolding writePrefix prefixBytes
-returns-2 c = lone-written (judge (c .before .before .before .before .before)) (c .before .before .before .before .if1 .left) (c .before .before .put-prefix .ensures)
+returns-2 c =
+    lone-written (judge (c .before .before .before .before .before)) (c .before .before .before .before .if1 .left)
+    (c .before .before .put-prefix .ensures)
 
 pub write-prefix-spec : {M : Type 1} → statement M
 write-prefix-spec =

@@ -29,14 +29,19 @@ returns c = lone-refused (judge (c .before)) (c .if1 .taken)
 
 put-asks-requires : tie.Need-put-asks-requires
 unfolding option
-put-asks-requires c κs = let a = lone-able (judge (c .before .before)) (c .before .if1 .left) in let e = ap length (asks-yes {b = true} refl) in search needs
+put-asks-requires c κs =
+    let a = lone-able (judge (c .before .before)) (c .before .if1 .left) in
+    let e = ap length (asks-yes {b = true} refl) in
+    search needs
 
 same-length : tie.Need-same-length
 same-length c = search needs
 
 returns-2 : tie.Need-returns-2
 unfolding writeRequest
-returns-2 c = lone-written (judge (c .before .before .before .before .before)) (c .before .before .before .before .if1 .left) (wrote-as (asks-yes refl) (c .before .before .put-asks .ensures))
+returns-2 c =
+    lone-written (judge (c .before .before .before .before .before)) (c .before .before .before .before .if1 .left)
+    (wrote-as (asks-yes refl) (c .before .before .put-asks .ensures))
 
 pub write-request-spec : {M : Type 1} → statement M
 write-request-spec =

@@ -35,14 +35,19 @@ unfolding writeStatus
 returns c = lone-refused (judge (c .before)) (c .if1 .taken)
 
 put-status-requires : tie.Need-put-status-requires
-put-status-requires c κs = let a = lone-able (judge (c .before .before)) (c .before .if1 .left) in let k = c .before .before .before .before .before .args .k in (ltb-true k 65536 (a .0), rw (status-named k k refl, zero-add) (a .2))
+put-status-requires c κs =
+    let a = lone-able (judge (c .before .before)) (c .before .if1 .left) in
+    let k = c .before .before .before .before .before .args .k in
+    (ltb-true k 65536 (a .0), rw (status-named k k refl, zero-add) (a .2))
 
 same-length : tie.Need-same-length
 same-length c = search needs
 
 returns-2 : tie.Need-returns-2
 unfolding writeStatus
-returns-2 c = lone-written (judge (c .before .before .before .before .before)) (c .before .before .before .before .if1 .left) (wrote-as (status-named _ _ refl) (c .before .before .put-status .ensures))
+returns-2 c =
+    lone-written (judge (c .before .before .before .before .before)) (c .before .before .before .before .if1 .left)
+    (wrote-as (status-named _ _ refl) (c .before .before .put-status .ensures))
 
 pub write-status-spec : {M : Type 1} → statement M
 write-status-spec =

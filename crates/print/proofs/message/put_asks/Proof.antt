@@ -20,7 +20,9 @@ same-length : tie.Need-same-length
 same-length c = search needs
 
 returns : tie.Need-returns
-returns c = wrote-as (sym (asks-yes (c .before .before .before .before .before .before .before .before .if1 .taken))) (wrote-option 6 2 (search needs) refl (c .before .before .before .before .before .before .put-head .ensures) (c .before .before .put-u16 .ensures))
+returns c =
+    wrote-as (sym (asks-yes (c .before .before .before .before .before .before .before .before .if1 .taken)))
+    (wrote-option 6 2 (search needs) refl (c .before .before .before .before .before .before .put-head .ensures) (c .before .before .put-u16 .ensures))
 
 returns-2 : tie.Need-returns-2
 returns-2 c = wrote-as (sym (asks-no (c .if1 .left))) wrote-nothing

@@ -25,14 +25,18 @@ put-option-requires c κs = let l = size (c .before .before .before .before .bef
 
 put-server-requires : tie.Need-put-server-requires
 unfolding be
-put-server-requires c κs = let l = size (c .before .before .before .before .before .before .before .before .before .before .before .before) in search needs
+put-server-requires c κs =
+    let l = size (c .before .before .before .before .before .before .before .before .before .before .before .before) in
+    search needs
 
 same-length : tie.Need-same-length
 same-length c = search needs
 
 returns : tie.Need-returns
 unfolding idsBytes be
-returns c = wrote-then (search needs) (c .before .before .before .before .before .before .before .before .before .before .put-start .ensures) (wrote-then (let l = size (c .before .before .before .before .before .before .before .before .before .before .before .before .before .before .before) in search needs) (c .before .before .before .before .before .before .put-option .ensures) (c .before .before .put-server .ensures))
+returns c =
+    wrote-then (search needs) (c .before .before .before .before .before .before .before .before .before .before .put-start .ensures)
+    (wrote-then (let l = size (c .before .before .before .before .before .before .before .before .before .before .before .before .before .before .before) in search needs) (c .before .before .before .before .before .before .put-option .ensures) (c .before .before .put-server .ensures))
 
 pub put-ids-spec : {M : Type 1} → statement M
 put-ids-spec =

@@ -8,7 +8,9 @@ use Rattle.print.proofs.message.put_server.Statement.{statement}
 use Rattle.print.proofs.message.put_server.Tie as tie
 
 put-option-requires : tie.Need-put-option-requires
-put-option-requires c κs = let s = c .before .before .before .before in (search needs, s .pre .0, rw (server-yes (now (s .args .server)) (c .before .if1 .taken)) at (s .pre .1))
+put-option-requires c κs =
+    let s = c .before .before .before .before in
+    (search needs, s .pre .0, rw (server-yes (now (s .args .server)) (c .before .if1 .taken)) at (s .pre .1))
 
 same-length : tie.Need-same-length
 same-length c = search needs

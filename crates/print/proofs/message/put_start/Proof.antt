@@ -21,7 +21,9 @@ same-length c = search needs
 
 returns : tie.Need-returns
 unfolding be
-returns c = wrote-then (search needs) (wrote-as (be-8 _ (kind (c .before .before .before .before .before .before .before .before .before))) (c .before .before .before .before .before .before .put-number .ensures)) (c .before .before .put-number2 .ensures)
+returns c =
+    wrote-then (search needs) (wrote-as (be-8 _ (kind (c .before .before .before .before .before .before .before .before .before))) (c .before .before .before .before .before .before .put-number .ensures))
+    (c .before .before .put-number2 .ensures)
 
 pub put-start-spec : {M : Type 1} → statement M
 put-start-spec = tie.close (tie.spec put-number-requires put-number-requires-2 same-length returns)

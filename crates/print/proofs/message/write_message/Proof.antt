@@ -26,16 +26,27 @@ put-asks-requires : tie.Need-put-asks-requires
 put-asks-requires c κs = let m = size (c .before .before .before .before .before .before .before .before) in search needs
 
 put-said-requires : tie.Need-put-said-requires
-put-said-requires c κs = let m = size (c .before .before .before .before .before .before .before .before .before .before .before .before) in search needs
+put-said-requires c κs =
+    let m = size (c .before .before .before .before .before .before .before .before .before .before .before .before) in
+    search needs
 
 put-pds-requires : tie.Need-put-pds-requires
-put-pds-requires c κs = let m = size (c .before .before .before .before .before .before .before .before .before .before .before .before .before .before .before .before) in (c .before .before .before .before .before .before .before .before .before .before .before .before .before .before .before .before .pre .3, search needs)
+put-pds-requires c κs =
+    let m = size (c .before .before .before .before .before .before .before .before .before .before .before .before .before .before .before .before) in (
+      c .before .before .before .before .before .before .before .before .before .before .before .before .before .before .before .before .pre .3,
+      search needs,
+    )
 
 same-length : tie.Need-same-length
 same-length c = search needs
 
 returns : tie.Need-returns
-returns c = let m = size (c .before .before .before .before .before .before .before .before .before .before .before .before .before .before .before .before .before .before .before) in wrote-whole (wrote-as (message-split _ _ _ _) (wrote-then (search needs) (c .before .before .before .before .before .before .before .before .before .before .before .before .before .before .put-ids .ensures) (wrote-then (search needs) (c .before .before .before .before .before .before .before .before .before .before .put-asks .ensures) (wrote-then (search needs) (c .before .before .before .before .before .before .put-said .ensures) (c .before .before .put-pds .ensures)))))
+returns c =
+    let m = size (c .before .before .before .before .before .before .before .before .before .before .before .before .before .before .before .before .before .before .before) in
+    wrote-whole (wrote-as (message-split _ _ _ _)
+    (wrote-then (search needs) (c .before .before .before .before .before .before .before .before .before .before .before .before .before .before .put-ids .ensures)
+    (wrote-then (search needs) (c .before .before .before .before .before .before .before .before .before .before .put-asks .ensures)
+    (wrote-then (search needs) (c .before .before .before .before .before .before .put-said .ensures) (c .before .before .put-pds .ensures)))))
 
 pub write-message-spec : {M : Type 1} → statement M
 write-message-spec =

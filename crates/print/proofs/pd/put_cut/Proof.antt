@@ -11,7 +11,10 @@ returns : tie.Need-returns
 returns c = wrote-as (sym (cut-none _ (c .if1 .taken))) wrote-nothing
 
 put-exclude-requires : tie.Need-put-exclude-requires
-put-exclude-requires c κs = let s = c .before .before .before .before .before in let e = cut-encodable _ (s .pre .0) (c .before .before .if1 .left) in (le-of-lt (e .more), e .most, e .clear, rw (cut-some (s .args .x) (c .before .before .if1 .left)) at (s .pre .1))
+put-exclude-requires c κs =
+    let s = c .before .before .before .before .before in
+    let e = cut-encodable _ (s .pre .0) (c .before .before .if1 .left) in
+    (le-of-lt (e .more), e .most, e .clear, rw (cut-some (s .args .x) (c .before .before .if1 .left)) at (s .pre .1))
 
 same-length : tie.Need-same-length
 same-length c = search needs

@@ -37,7 +37,9 @@ same-length : tie.Need-same-length
 same-length c = search needs
 
 returns : tie.Need-returns
-returns c = wrote-option 67 _ (search needs) (sym (exclude-length _ _)) (c .before .before .before .before .before .before .put-head .ensures) (wrote-all (exclude-length _ _) (c .before .before .put-exclude .ensures))
+returns c =
+    wrote-option 67 _ (search needs) (sym (exclude-length _ _)) (c .before .before .before .before .before .before .put-head .ensures)
+    (wrote-all (exclude-length _ _) (c .before .before .put-exclude .ensures))
 
 pub put-exclude-spec : {M : Type 1} → statement M
 put-exclude-spec =

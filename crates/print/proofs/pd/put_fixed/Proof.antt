@@ -36,7 +36,11 @@ same-length c = search needs
 
 returns : tie.Need-returns
 unfolding fixedBytes be
-returns c = wrote-then (search needs) (c .before .before .before .before .before .before .before .before .before .before .before .before .before .before .before .put-number .ensures) (wrote-then (search needs) (c .before .before .before .before .before .before .before .before .before .before .before .put-number2 .ensures) (wrote-then (search needs) (wrote-as (be-8 _ (c .before .before .before .before .before .before .before .before .before .before .before .before .before .before .before .before .before .before .pre .0)) (c .before .before .before .before .before .before .before .put-number3 .ensures)) (wrote-as (be-sixteen _ (sixteen (c .before .before .before .before .before .before .before .before .before .before .before .before .before .before .before .before .before .before))) (c .before .before .put-bytes .ensures))))
+returns c =
+    wrote-then (search needs) (c .before .before .before .before .before .before .before .before .before .before .before .before .before .before .before .put-number .ensures)
+    (wrote-then (search needs) (c .before .before .before .before .before .before .before .before .before .before .before .put-number2 .ensures)
+    (wrote-then (search needs) (wrote-as (be-8 _ (c .before .before .before .before .before .before .before .before .before .before .before .before .before .before .before .before .before .before .pre .0)) (c .before .before .before .before .before .before .before .put-number3 .ensures))
+    (wrote-as (be-sixteen _ (sixteen (c .before .before .before .before .before .before .before .before .before .before .before .before .before .before .before .before .before .before))) (c .before .before .put-bytes .ensures))))
 
 pub put-fixed-spec : {M : Type 1} → statement M
 put-fixed-spec =

@@ -11,7 +11,11 @@ add-put-fixed : tie.Need-add-put-fixed
 add-put-fixed c = search needs
 
 put-fixed-requires : tie.Need-put-fixed-requires
-put-fixed-requires c κs = let s = c .before .before .before in let l = prefix-size (s .args .x) in let k = prefix-length (s .args .x) (s .pre .0) in search needs
+put-fixed-requires c κs =
+    let s = c .before .before .before in
+    let l = prefix-size (s .args .x) in
+    let k = prefix-length (s .args .x) (s .pre .0) in
+    search needs
 
 put-cut-requires : tie.Need-put-cut-requires
 unfolding fixedBytes be
@@ -25,14 +29,22 @@ sub-put-head c = search needs
 
 put-head-requires : tie.Need-put-head-requires
 unfolding fixedBytes be
-put-head-requires c κs = let s = c .before .before .before .before .before .before .before .before .before .before .before in let l = prefix-size (s .args .x) in let k = cut-few (s .args .x) (s .pre .0) in search needs
+put-head-requires c κs =
+    let s = c .before .before .before .before .before .before .before .before .before .before .before in
+    let l = prefix-size (s .args .x) in
+    let k = cut-few (s .args .x) (s .pre .0) in
+    search needs
 
 same-length : tie.Need-same-length
 same-length c = search needs
 
 returns : tie.Need-returns
 unfolding prefixBytes fixedBytes be
-returns c = let s = c .before .before .before .before .before .before .before .before .before .before .before .before .before .before in let l = prefix-size (s .args .x) in wrote-front 26 (search needs) (wrote-as (listed-split _) (wrote-then (search needs) (c .before .before .before .before .before .before .before .before .before .before .put-fixed .ensures) (c .before .before .before .before .before .before .put-cut .ensures))) (c .before .before .put-head .ensures)
+returns c =
+    let s = c .before .before .before .before .before .before .before .before .before .before .before .before .before .before in
+    let l = prefix-size (s .args .x) in
+    wrote-front 26 (search needs) (wrote-as (listed-split _)
+    (wrote-then (search needs) (c .before .before .before .before .before .before .before .before .before .before .put-fixed .ensures) (c .before .before .before .before .before .before .put-cut .ensures))) (c .before .before .put-head .ensures)
 
 pub put-prefix-spec : {M : Type 1} → statement M
 put-prefix-spec =

@@ -30,7 +30,12 @@ array-copy-out-x : tie.Need-array-copy-out-x Inv-loop μ-loop
 array-copy-out-x c = search needs
 
 put-prefix-requires : tie.Need-put-prefix-requires Inv-loop μ-loop
-put-prefix-requires c κs = let s = c .before .before .before .before .before in let l = c .before .before .before .loop in (all-first leaseEncodes blank _ _ _ (s .pre .1) (c .before .before .loop-test .taken) (long s), rest-room _ _ _ (long s) (c .before .before .loop-test .taken) (l .inv .2) (s .pre .2) (l .inv .1))
+put-prefix-requires c κs =
+    let s = c .before .before .before .before .before in
+    let l = c .before .before .before .loop in (
+      all-first leaseEncodes blank _ _ _ (s .pre .1) (c .before .before .loop-test .taken) (long s),
+      rest-room _ _ _ (long s) (c .before .before .loop-test .taken) (l .inv .2) (s .pre .2) (l .inv .1),
+    )
 
 add-i : tie.Need-add-i Inv-loop μ-loop
 add-i c = search needs
@@ -39,7 +44,13 @@ loop-less : tie.Need-loop-less Inv-loop μ-loop
 loop-less c = search needs
 
 loop-again : tie.Need-loop-again Inv-loop μ-loop
-loop-again c = let s = c .before .before .before .before .before .before .before .before in let l = c .before .before .before .before .before .before .loop in (search needs, search needs, left-turn (l .inv .2) (search needs) (rest-first _ _ _ (long s) (c .before .before .before .before .before .loop-test .taken)) (c .before .before .put-prefix .ensures))
+loop-again c =
+    let s = c .before .before .before .before .before .before .before .before in
+    let l = c .before .before .before .before .before .before .loop in (
+      search needs,
+      search needs,
+      left-turn (l .inv .2) (search needs) (rest-first _ _ _ (long s) (c .before .before .before .before .before .loop-test .taken)) (c .before .before .put-prefix .ensures),
+    )
 
 same-length : tie.Need-same-length Inv-loop μ-loop
 same-length c = c .before .loop .inv .1

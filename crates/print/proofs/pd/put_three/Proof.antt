@@ -22,7 +22,9 @@ same-length c = search needs
 
 returns : tie.Need-returns
 unfolding threeBytes be
-returns c = wrote-then (search needs) (c .before .before .before .before .before .before .before .before .before .before .put-number .ensures) (wrote-then (search needs) (c .before .before .before .before .before .before .put-number2 .ensures) (c .before .before .put-number3 .ensures))
+returns c =
+    wrote-then (search needs) (c .before .before .before .before .before .before .before .before .before .before .put-number .ensures)
+    (wrote-then (search needs) (c .before .before .before .before .before .before .put-number2 .ensures) (c .before .before .put-number3 .ensures))
 
 pub put-three-spec : {M : Type 1} → statement M
 put-three-spec =

@@ -26,7 +26,9 @@ same-length c = search needs
 
 returns : tie.Need-returns
 unfolding option
-returns c = wrote-option 13 _ (search needs) (add-two _) (c .before .before .before .before .before .before .before .before .before .before .put-head .ensures) (wrote-then (search needs) (c .before .before .before .before .before .before .put-u16 .ensures) (c .before .before .put-bytes .ensures))
+returns c =
+    wrote-option 13 _ (search needs) (add-two _) (c .before .before .before .before .before .before .before .before .before .before .put-head .ensures)
+    (wrote-then (search needs) (c .before .before .before .before .before .before .put-u16 .ensures) (c .before .before .put-bytes .ensures))
 
 pub put-named-spec : {M : Type 1} → statement M
 put-named-spec =

@@ -19,7 +19,9 @@ same-length c = search needs
 
 returns : tie.Need-returns
 unfolding option
-returns c = wrote-option _ _ (search needs) refl (c .before .before .before .before .before .before .put-head .ensures) (c .before .before .put-bytes .ensures)
+returns c =
+    wrote-option _ _ (search needs) refl (c .before .before .before .before .before .before .put-head .ensures)
+    (c .before .before .put-bytes .ensures)
 
 pub put-option-spec : {M : Type 1} → statement M
 put-option-spec = tie.close (tie.spec put-head-requires put-bytes-requires same-length returns)

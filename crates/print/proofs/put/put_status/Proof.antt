@@ -12,7 +12,11 @@ slice-aggregate-put-named c = search needs
 
 put-named-requires : tie.Need-put-named-requires
 unfolding nameOf
-put-named-requires c κs = (c .before .before .before .before .pre .0, search needs, rw (status-named _ 0 (c .before .before .if1 .taken)) at (c .before .before .before .before .pre .1))
+put-named-requires c κs = (
+  c .before .before .before .before .pre .0,
+  search needs,
+  rw (status-named _ 0 (c .before .before .if1 .taken)) at (c .before .before .before .before .pre .1),
+)
 
 same-length : tie.Need-same-length
 same-length c = search needs
@@ -26,7 +30,11 @@ slice-aggregate-put-named-2 c = search needs
 
 put-named-requires-2 : tie.Need-put-named-requires-2
 unfolding nameOf
-put-named-requires-2 c κs = (c .before .before .before .before .before .pre .0, search needs, rw (status-named _ 3 (c .before .before .if2 .taken)) at (c .before .before .before .before .before .pre .1))
+put-named-requires-2 c κs = (
+  c .before .before .before .before .before .pre .0,
+  search needs,
+  rw (status-named _ 3 (c .before .before .if2 .taken)) at (c .before .before .before .before .before .pre .1),
+)
 
 same-length-2 : tie.Need-same-length-2
 same-length-2 c = search needs
@@ -40,7 +48,11 @@ slice-aggregate-put-named-3 c = search needs
 
 put-named-requires-3 : tie.Need-put-named-requires-3
 unfolding nameOf
-put-named-requires-3 c κs = (c .before .before .before .before .before .before .pre .0, search needs, rw (status-named _ 6 (c .before .before .if3 .taken)) at (c .before .before .before .before .before .before .pre .1))
+put-named-requires-3 c κs = (
+  c .before .before .before .before .before .before .pre .0,
+  search needs,
+  rw (status-named _ 6 (c .before .before .if3 .taken)) at (c .before .before .before .before .before .before .pre .1),
+)
 
 same-length-3 : tie.Need-same-length-3
 same-length-3 c = search needs
@@ -53,13 +65,19 @@ slice-aggregate-put-named-4 : tie.Need-slice-aggregate-put-named-4
 slice-aggregate-put-named-4 c = search needs
 
 put-named-requires-4 : tie.Need-put-named-requires-4
-put-named-requires-4 c κs = (c .before .before .before .before .before .before .pre .0, search needs, rw (status-nameless _ (c .before .before .before .before .if1 .left) (c .before .before .before .if2 .left) (c .before .before .if3 .left)) at (c .before .before .before .before .before .before .pre .1))
+put-named-requires-4 c κs = (
+  c .before .before .before .before .before .before .pre .0,
+  search needs,
+  rw (status-nameless _ (c .before .before .before .before .if1 .left) (c .before .before .before .if2 .left) (c .before .before .if3 .left)) at (c .before .before .before .before .before .before .pre .1),
+)
 
 same-length-4 : tie.Need-same-length-4
 same-length-4 c = search needs
 
 returns-4 : tie.Need-returns-4
-returns-4 c = wrote-as (sym (status-nameless _ (c .before .before .before .before .before .before .before .if1 .left) (c .before .before .before .before .before .before .if2 .left) (c .before .before .before .before .before .if3 .left))) (c .before .before .put-named4 .ensures)
+returns-4 c =
+    wrote-as (sym (status-nameless _ (c .before .before .before .before .before .before .before .if1 .left) (c .before .before .before .before .before .before .if2 .left) (c .before .before .before .before .before .if3 .left)))
+    (c .before .before .put-named4 .ensures)
 
 pub put-status-spec : {M : Type 1} → statement M
 put-status-spec =

@@ -42,10 +42,14 @@ loop-less : tie.Need-loop-less Inv-loop μ-loop
 loop-less c = search needs
 
 loop-again : tie.Need-loop-again Inv-loop μ-loop
-loop-again c = let e = rest-size (c .before .before .before .before .args .n) (c .before .before .before .loop .i) (c .before .before .before .before .args .t1) (long (c .before .before .before .before)) (c .before .before .loop-test .taken) in search needs
+loop-again c =
+    let e = rest-size (c .before .before .before .before .args .n) (c .before .before .before .loop .i) (c .before .before .before .before .args .t1) (long (c .before .before .before .before)) (c .before .before .loop-test .taken) in
+    search needs
 
 returns : tie.Need-returns Inv-loop μ-loop
-returns c = let e = ap length (rest-none (c .before .before .args .n) (c .before .loop .i) (c .before .before .args .t1) (long (c .before .before)) (c .loop-test .left)) in search needs
+returns c =
+    let e = ap length (rest-none (c .before .before .args .n) (c .before .loop .i) (c .before .before .args .t1) (long (c .before .before)) (c .loop-test .left)) in
+    search needs
 
 pub first-size-spec : {M : Type 1} → statement M
 first-size-spec =
