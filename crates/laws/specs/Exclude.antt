@@ -222,23 +222,11 @@ module _ (p : Prefix) (b : ℕ) (c : List ℕ) (y : Bytes c) (h : contentOk (p .
         clear = eq-eqb _ _ (unpacked-clear p b (num c) (le-of-lt (s .more)) (s .most) content-few);
       })
 
-  pub unpacked-fits : fits p ≡ true → fits (unpacked p b (num c)) ≡ true
-  unfolding unpacked
-  unpacked-fits f =
-      let s = content (p .length) b c h in
-      let g = both (leb (p .length) 128) (ltb (p .bits) (2 ^ 128)) f in
-      both-made (le-leb b 128 (s .most)) (lt-ltb _ _ (unpacked-lt p b (num c) (le-of-lt (s .more)) (s .most) content-few (ltb-true (p .bits) (2 ^ 128) (g .1))))
-
   -- its sixteen bytes write it
   pub unpacked-num : p .bits < 2 ^ 128 → num (be 16 (unpacked p b (num c) .bits)) ≡ unpacked p b (num c) .bits
   unpacked-num l =
       let s = content (p .length) b c h in
       num-be-fits 16 (unpacked p b (num c) .bits) (unpacked-lt p b (num c) (le-of-lt (s .more)) (s .most) content-few l)
-
--- as the code has it
-pub unpacked-sixteen : (q c : List ℕ) (a b : ℕ) → Sixteen q → Bytes c → contentOk a b c ≡ true
-    → num (be 16 (unpacked (prefix (num q) a) b (num c) .bits)) ≡ unpacked (prefix (num q) a) b (num c) .bits
-unpacked-sixteen q c a b s y h = unpacked-num (prefix (num q) a) b c y h (sixteen-lt q s)
 
 -- ---------------------------------------------------------------- packing, byte by byte
 

@@ -39,11 +39,6 @@ module _ {A : Type 0} where
   unfolding part
   part-set i n j x l h = rw (drop-set-lt i l j x h)
 
-  -- the part that was put in
-  pub part-splice : (i n : ℕ) (e l : List A) → length e ≡ n → i ≤ length l → part i n (splice i e l) ≡ e
-  unfolding part splice
-  part-splice i n e l q h = rw (drop-at (take i l) (e ++ drop (i + length e) l) i (length-take-le i l h)) (take-at e (drop (i + length e) l) n q)
-
   pub drop-take : (j i : ℕ) (l : List A) → drop j (take i l) ≡ take (i - j) (drop j l)
   drop-take zero i l = rw sub-zero
   drop-take (suc j) zero l = rw zero-sub
@@ -52,17 +47,6 @@ module _ {A : Type 0} where
 
   pub part-of-take : (j n i : ℕ) (l : List A) → j + n ≤ i → take n (drop j (take i l)) ≡ take n (drop j l)
   part-of-take j n i l h = rw (drop-take j i l) (take-take n (i - j) (drop j l) (omega arith))
-
-  -- a part before it
-  pub part-before : (j n i : ℕ) (e l : List A) → j + n ≤ i → i ≤ length l → part j n (splice i e l) ≡ part j n l
-  unfolding part splice
-  part-before j n i e l h k =
-      let w : length (take i l) ≡ i = length-take-le i l k in
-      let a : j ≤ length (take i l) = omega arith in
-      let b : n ≤ length (drop j (take i l)) = simp length-drop (omega arith) in
-      let c : n ≤ length (drop j l) = simp length-drop (omega arith) in
-      rw (drop-append-le j (take i l) (e ++ drop (i + length e) l) a, take-append-le n (drop j (take i l)) (e ++ drop (i + length e) l) b)
-      (part-of-take j n i l h)
 
   drop-past : (p q : List A) (n m : ℕ) → n ≡ length p + m → drop n (p ++ q) ≡ drop m q
   drop-past p q n m e = rw e (drop-append-add p q m)
@@ -132,11 +116,6 @@ module _ {A : Type 0} where
   part-left a n d e h =
       let b : n ≤ length (drop a d) = simp length-drop (omega arith) in
       rw (drop-append-le a d e (omega arith), take-append-le n (drop a d) e b)
-
-  -- a part inside what was put in
-  pub part-inside : (i a n : ℕ) (e l : List A) → i ≤ length l → a + n ≤ length e → part (i + a) n (splice i e l) ≡ part a n e
-  unfolding splice
-  part-inside i a n e l h f = part-past i a n (take i l) (e ++ drop (i + length e) l) (length-take-le i l h) ∙ part-left a n e (drop (i + length e) l) f
 
   -- a turn of a loop that puts in e′ from i: it stores x, and e is left
   pub turn : (i j : ℕ) (x : A) (e e′ l r : List A) → i < length l → j ≡ i + 1 → e′ ≡ x ∷ e → splice i e′ l ≡ r → splice j e (set l i x) ≡ r

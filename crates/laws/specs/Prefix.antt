@@ -116,14 +116,6 @@ module _ (p q : Prefix) (zp : zeroAfter p ≡ true) (zq : zeroAfter q ≡ true) 
           let le : q .length ≤ p .length = le-of-lt (leb-false (p .length) (q .length) e) in
           rw (min-eq-right le) (eq-eqb _ _ (sym (front← (q .bits) (q .length) (p .bits) (p .length) le alignedq alignedp g h)))
 
--- what lies inside another overlaps it
-pub inside-overlap : (p q : Prefix) → inside p q ≡ true → overlap p q ≡ true
-unfolding inside overlap
-inside-overlap p q e =
-    let b = both (leb (q .length) (p .length)) (eqb (front (p .bits) (q .length)) (front (q .bits) (q .length))) e in
-    let le = leb-true (q .length) (p .length) (b .0) in
-    rw (min-eq-right le) (b .1)
-
 -- what lies inside a prefix of 128 bits has 128 bits
 pub inside-fits : (p q : Prefix) → fits q ≡ true → inside p q ≡ true → p .bits < 2 ^ 128
 unfolding inside

@@ -142,22 +142,3 @@ module _ (f : List ℕ → Bool) (n : ℕ) (l : List ℕ) (h : n ≤ 256) (room 
   pub rows-dropped : rows (dropped f n l) 0 (length (kept f n l)) ≡ kept f n l
   unfolding dropped
   rows-dropped = rows-each (take headerSize l) rest 0 sized-kept header
-
-  pub length-dropped : length (dropped f n l) ≡ length l
-  unfolding dropped
-  length-dropped =
-      let e = each-length sized-kept in
-      let k = kept-few in
-      rw (length-append, header, length-append, length-append, length-replicate, length-drop) (omega arith)
-
-  pub header-dropped : (a m : ℕ) → a + m ≤ headerSize → part a m (dropped f n l) ≡ part a m l
-  unfolding dropped part
-  header-dropped a m g = let w = header in part-left a m (take headerSize l) (each (kept f n l) ++ rest) (omega arith) ∙ part-of-take a m headerSize l g
-
-  pub drop-dropped : drop (place (length (kept f n l))) (dropped f n l) ≡ rest
-  unfolding dropped
-  drop-dropped =
-      let e = each-length sized-kept in
-      let w = header in
-      rw (← append-assoc (take headerSize l) (each (kept f n l)) rest)
-      (drop-at (take headerSize l ++ each (kept f n l)) rest (place (length (kept f n l))) (rw length-append (omega arith)))
