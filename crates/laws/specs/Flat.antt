@@ -15,12 +15,12 @@ use lib.ListN.{length, getD, take, drop, replicate, length-append, length-take, 
 use lib.Seq.{drop-drop, take-take, take-all, length-take-le}
 use borrow.Author.Tests.{eqb-true, eqb-false, eq-eqb, ne-eqb, leb-true, leb-false, le-leb, lt-leb, ltb-true, lt-ltb}
 use Rattle.rules.specs.Words.{all, noTwo, each, from, part, filled, sameBytes, num, be, numAt}
-use Rattle.rules.specs.Prefix.{Prefix, prefix, zeroAfter, inside, samePrefix, last64, fits}
+use Rattle.rules.specs.Prefix.{Prefix, prefix, zeroAfter, inside, samePrefix, last64, fits, exceptFor}
 use Rattle.rules.specs.Clock.{forEver, goodEnd}
 use Rattle.rules.specs.Identity.{Duid, identity, goodDuid, goodIdentity}
 use Rattle.rules.specs.Settings.{Settings, goodSettings}
 use Rattle.rules.specs.Table.{Record, Table, mayStand, goodExcept, goodRecord, sound}
-use Rattle.rules.specs.TableBytes.{recordSize, headerSize, tableSize, place, flag, isSome, exceptIf, delegation, recordBytes, headerBytes, tableBytes, recordOf, rowAt, recordAt, settingsOf, countOf, tableOf, soundBytes}
+use Rattle.rules.specs.TableBytes.{recordSize, headerSize, tableSize, place, flag, isSome, recordBytes, headerBytes, tableBytes, recordOf, rowAt, recordAt, settingsOf, countOf, tableOf, soundBytes}
 use Rattle.laws.specs.Tests.{both, both-made, false-true, same-test}
 use Rattle.laws.specs.Parts.{length-part, drop-part}
 use Rattle.laws.specs.Loops.{from-length, all-at, all-made}
@@ -101,10 +101,10 @@ module _ (e : List ℕ) (y : Bytes e) (l : length e ≡ 153) where
   unfolding part
   duid-length = rw (length-take, length-drop, l)
 
-  excluded : isSome (exceptIf (not (eqb x 0)) (prefix (numAt e 5 8 * 2 ^ 64) (numAt e 13 1))) ≡ not (eqb x 0)
+  excluded : isSome (exceptFor (not (eqb x 0)) (prefix (numAt e 5 8 * 2 ^ 64) (numAt e 13 1))) ≡ not (eqb x 0)
   excluded = by (not (eqb x 0))
     where
-      by : (b : Bool) → isSome (exceptIf b (prefix (numAt e 5 8 * 2 ^ 64) (numAt e 13 1))) ≡ b
+      by : (b : Bool) → isSome (exceptFor b (prefix (numAt e 5 8 * 2 ^ 64) (numAt e 13 1))) ≡ b
       by true = refl
       by false = refl
 
@@ -121,19 +121,19 @@ module _ (e : List ℕ) (y : Bytes e) (l : length e ≡ 153) where
       let first : sameBytes (be 1 (length d)) (part 0 1 e) ≡ leb n 130 =
       ap (λ k. sameBytes (be 1 k) (part 0 1 e)) duid-length ∙ ap (sameBytes (be 1 (min n 130))) (sym (same-number e 0 1 y (omega arith)))
       ∙ same-byte (min n 130) n (omega (arith, small 0)) (small 0) ∙ min-is n in
-      let fifth : sameBytes (be 1 (flag (isSome (exceptIf (not (eqb x 0)) (prefix (numAt e 5 8 * 2 ^ 64) (numAt e 13 1)))))) (part 14 1 e) ≡ leb x 1 =
+      let fifth : sameBytes (be 1 (flag (isSome (exceptFor (not (eqb x 0)) (prefix (numAt e 5 8 * 2 ^ 64) (numAt e 13 1)))))) (part 14 1 e) ≡ leb x 1 =
       ap (λ b. sameBytes (be 1 (flag b)) (part 14 1 e)) excluded ∙ ap (sameBytes (be 1 (flag (not (eqb x 0))))) (sym (same-number e 14 1 y (omega arith)))
       ∙ same-byte (flag (not (eqb x 0))) x (flag-small (not (eqb x 0))) (small 14) ∙ flag-read x (small 14) in
       same-field (be 1 (length d)) _ e 0 1 (length-be 1 (length d)) (omega arith)
       ∙ ap (λ b. b && sameBytes (be 4 (numAt e 1 4) ++ (be 8 (numAt e 5 8 * 2 ^ 64 / 2 ^ 64) ++ (be 1 (numAt e 13 1)
-      ++ (be 1 (flag (isSome (exceptIf (not (eqb x 0)) (prefix (numAt e 5 8 * 2 ^ 64) (numAt e 13 1))))) ++ (be 8 (numAt e 15 8) ++ filled 130 d))))) (drop 1 e)) first
+      ++ (be 1 (flag (isSome (exceptFor (not (eqb x 0)) (prefix (numAt e 5 8 * 2 ^ 64) (numAt e 13 1))))) ++ (be 8 (numAt e 15 8) ++ filled 130 d))))) (drop 1 e)) first
       ∙ ap (λ b. leb n 130 && b)
       (same-read _ e 1 4 y (omega arith)
       ∙ ap (λ k. sameBytes (be 8 k ++ (be 1 (numAt e 13 1)
-      ++ (be 1 (flag (isSome (exceptIf (not (eqb x 0)) (prefix (numAt e 5 8 * 2 ^ 64) (numAt e 13 1))))) ++ (be 8 (numAt e 15 8) ++ filled 130 d)))) (drop 5 e)) u
+      ++ (be 1 (flag (isSome (exceptFor (not (eqb x 0)) (prefix (numAt e 5 8 * 2 ^ 64) (numAt e 13 1))))) ++ (be 8 (numAt e 15 8) ++ filled 130 d)))) (drop 5 e)) u
       ∙ same-read _ e 5 8 y (omega arith)
       ∙ same-read _ e 13 1 y (omega arith)
-      ∙ same-field (be 1 (flag (isSome (exceptIf (not (eqb x 0)) (prefix (numAt e 5 8 * 2 ^ 64) (numAt e 13 1)))))) _ e 14 1 (length-be 1 _) (omega arith)
+      ∙ same-field (be 1 (flag (isSome (exceptFor (not (eqb x 0)) (prefix (numAt e 5 8 * 2 ^ 64) (numAt e 13 1)))))) _ e 14 1 (length-be 1 _) (omega arith)
       ∙ ap (λ b. b && sameBytes (be 8 (numAt e 15 8) ++ filled 130 d) (drop 15 e)) fifth
       ∙ ap (λ b. leb x 1 && b) (same-read _ e 15 8 y (omega arith) ∙ rest-same))
 
@@ -165,20 +165,20 @@ record-length e l =
 
 -- the flag of an excluded prefix, as soundness asks for it
 module _ (s : Settings) (p : Prefix) (x : ℕ) where
-  except→ : x ≤ 1 → goodExcept s p (exceptIf (not (eqb x 0)) p) ≡ true → leb x (flag (s .exclusion)) ≡ true
+  except→ : x ≤ 1 → goodExcept s p (exceptFor (not (eqb x 0)) p) ≡ true → leb x (flag (s .exclusion)) ≡ true
   except→ h g = by (eqb x 0) refl g
     where
-      by : (b : Bool) → eqb x 0 ≡ b → goodExcept s p (exceptIf (not b) p) ≡ true → leb x (flag (s .exclusion)) ≡ true
+      by : (b : Bool) → eqb x 0 ≡ b → goodExcept s p (exceptFor (not b) p) ≡ true → leb x (flag (s .exclusion)) ≡ true
       by true q g = let z = eqb-true x 0 q in le-leb x (flag (s .exclusion)) (omega arith)
       by false q g = let e = both (s .exclusion) (samePrefix (last64 p) (last64 p)) g .0 in rw e (le-leb x 1 h)
 
-  except← : leb x (flag (s .exclusion)) ≡ true → (x ≤ 1) × (goodExcept s p (exceptIf (not (eqb x 0)) p) ≡ true)
+  except← : leb x (flag (s .exclusion)) ≡ true → (x ≤ 1) × (goodExcept s p (exceptFor (not (eqb x 0)) p) ≡ true)
   except← h = on (s .exclusion) refl h
     where
-      on : (b : Bool) → s .exclusion ≡ b → leb x (flag b) ≡ true → (x ≤ 1) × (goodExcept s p (exceptIf (not (eqb x 0)) p) ≡ true)
+      on : (b : Bool) → s .exclusion ≡ b → leb x (flag b) ≡ true → (x ≤ 1) × (goodExcept s p (exceptFor (not (eqb x 0)) p) ≡ true)
       on true q h = (leb-true x 1 h, by (not (eqb x 0)))
         where
-          by : (c : Bool) → goodExcept s p (exceptIf c p) ≡ true
+          by : (c : Bool) → goodExcept s p (exceptFor c p) ≡ true
           by true = both-made q (same-refl (last64 p))
           by false = refl
       on false q h = let z : x ≡ 0 = (let w = leb-true x 0 h in omega arith) in (omega arith, rw z refl)

@@ -5,7 +5,7 @@
 --   other-, same-length   whether the record is a binding of an identity, test by test
 --   counted           one more record in a count of those that pass
 use mathlib.Core.Path.{_≡_, refl, sym, ap, _∙_}
-use mathlib.Core.Bool.{Bool, true, false, _&&_}
+use mathlib.Core.Bool.{Bool, true, false, not, _&&_}
 use mathlib.Core.List.{List}
 use mathlib.Core.Logic.{⊎-elim}
 use Prim.Native.Nat.{ℕ, _+_, _-_, _*_, _%_, _^_, _≤_, _<_, min}
@@ -20,7 +20,7 @@ use Rattle.rules.specs.Words.{consIf, keep, from, part, sameBytes, num, numAt}
 use Rattle.rules.specs.Prefix.{prefix}
 use Rattle.rules.specs.Identity.{identity}
 use Rattle.rules.specs.Table.{Record, area, isBinding}
-use Rattle.rules.specs.TableBytes.{place, recordSize, delegation, recordOf, rowAt, recordAt}
+use Rattle.rules.specs.TableBytes.{place, recordSize, leased, recordOf, rowAt, recordAt}
 use Rattle.laws.specs.Tests.{lt-or-ge}
 use Rattle.laws.specs.Parts.{part-part, length-part, drop-take}
 use Rattle.laws.specs.Loops.{keep-turn, keep-end}
@@ -36,7 +36,7 @@ module _ (l : List ℕ) (i : ℕ) where
 
   pub read : recordAt l i ≡ record {
     owner = identity (take (numAt l (place i) 1) (part (place i + 23) 130 l)) (numAt l (place i + 1) 4);
-    lease = delegation (numAt l (place i + 5) 8) (numAt l (place i + 13) 1) (numAt l (place i + 14) 1);
+    lease = leased (numAt l (place i + 5) 8) (numAt l (place i + 13) 1) (not (eqb (numAt l (place i + 14) 1) 0));
     end = numAt l (place i + 15) 8;
   }
   unfolding recordOf

@@ -10,12 +10,12 @@ use lib.Pow.{shl-shr, split, shr-lt}
 use lib.ListN.{length, getD, take, drop, replicate, length-append, length-map, length-replicate}
 use borrow.Author.Tests.{eqb-true, eq-eqb, leb-true, le-leb, ltb-true, lt-ltb}
 use Rattle.rules.specs.Words.{all, noTwo, each, from, part, filled, sameBytes, num, be, numAt}
-use Rattle.rules.specs.Prefix.{Prefix, prefix, size, zeroAfter, inside, samePrefix, last64, fits, Lease, lease}
+use Rattle.rules.specs.Prefix.{Prefix, prefix, size, zeroAfter, inside, samePrefix, last64, fits, Lease, lease, exceptFor}
 use Rattle.rules.specs.Clock.{forEver, never, goodEnd}
 use Rattle.rules.specs.Identity.{Duid, Identity, identity, goodDuid, goodIdentity}
 use Rattle.rules.specs.Settings.{Settings, goodSettings}
 use Rattle.rules.specs.Table.{Record, Table, goodExcept, goodRecord, sound}
-use Rattle.rules.specs.TableBytes.{recordSize, headerSize, tableSize, place, flag, isSome, exceptIf, delegation, recordBytes, headerBytes, tableBytes, recordOf, rowAt, recordAt, settingsOf, countOf, tableOf, soundBytes}
+use Rattle.rules.specs.TableBytes.{recordSize, headerSize, tableSize, place, flag, isSome, leased, recordBytes, headerBytes, tableBytes, recordOf, rowAt, recordAt, settingsOf, countOf, tableOf, soundBytes}
 use Rattle.laws.specs.Tests.{both, either}
 use Rattle.laws.specs.Loops.{from-length, from-map}
 use Rattle.laws.specs.Parts.{length-part}
@@ -39,7 +39,7 @@ end-fits e g = by (either (ltb e (2 ^ 49)) (eqb e never) g)
     by (inr h) = let z = eqb-true e never h in omega arith
 
 -- a good excluded prefix is told by its flag
-except-told : (s : Settings) (p : Prefix) (o : Option Prefix) → goodExcept s p o ≡ true → exceptIf (not (eqb (flag (isSome o)) 0)) p ≡ o
+except-told : (s : Settings) (p : Prefix) (o : Option Prefix) → goodExcept s p o ≡ true → exceptFor (not (eqb (flag (isSome o)) 0)) p ≡ o
 except-told s p none g = refl
 except-told s p (some e) g = ap some (sym (same-prefix e (last64 p) (both (s .exclusion) (samePrefix e (last64 p)) g .1)))
 
@@ -51,19 +51,19 @@ upper-half p h z =
 
 -- a record by its fields
 record-fields : (e : List ℕ) {n i u a x t : ℕ} → numAt e 0 1 ≡ n → numAt e 1 4 ≡ i → numAt e 5 8 ≡ u → numAt e 13 1 ≡ a → numAt e 14 1 ≡ x → numAt e 15 8 ≡ t
-    → recordOf e ≡ record { owner = identity (part 23 n e) i; lease = delegation u a x; end = t }
+    → recordOf e ≡ record { owner = identity (part 23 n e) i; lease = leased u a (not (eqb x 0)); end = t }
 unfolding recordOf
-record-fields e n i u a x t = λ j. record { owner = identity (part 23 (n j) e) (i j); lease = delegation (u j) (a j) (x j); end = t j }
+record-fields e n i u a x t = λ j. record { owner = identity (part 23 (n j) e) (i j); lease = leased (u j) (a j) (not (eqb (x j) 0)); end = t j }
 
 flag-byte : (b : Bool) → flag b < 2 ^ (8 * 1)
 flag-byte true = omega arith
 flag-byte false = omega arith
 
 lease-told : (s : Settings) (l : Lease) → l .prefix .length ≤ 64 → zeroAfter (l .prefix) ≡ true → goodExcept s (l .prefix) (l .except) ≡ true
-    → delegation (l .prefix .bits / 2 ^ 64) (l .prefix .length) (flag (isSome (l .except))) ≡ l
+    → leased (l .prefix .bits / 2 ^ 64) (l .prefix .length) (not (eqb (flag (isSome (l .except))) 0)) ≡ l
 lease-told s l h z g =
     let w : prefix (l .prefix .bits / 2 ^ 64 * 2 ^ 64) (l .prefix .length) ≡ l .prefix = ap (λ b. prefix b (l .prefix .length)) (upper-half (l .prefix) h z) in
-    ap (λ p. lease p (exceptIf (not (eqb (flag (isSome (l .except))) 0)) p)) w ∙ ap (lease (l .prefix)) (except-told s (l .prefix) (l .except) g)
+    ap (λ p. lease p (exceptFor (not (eqb (flag (isSome (l .except))) 0)) p)) w ∙ ap (lease (l .prefix)) (except-told s (l .prefix) (l .except) g)
 
 module _ (s : Settings) (r : Record) (pool : fits (s .pool) ≡ true) (good : goodRecord s r ≡ true) where
   abbrev e : List ℕ
@@ -112,7 +112,7 @@ module _ (s : Settings) (r : Record) (pool : fits (s .pool) ≡ true) (good : go
       let d0 : part 23 (length d) e ≡ d = stands-part (stands-head d _ s6) refl in
       record-fields e (stands-num 1 (length d) _ s0 (omega (arith, duid-few))) (stands-num 4 (r .owner .iaid) _ s1 iaid) (stands-num 8 (p .bits / 2 ^ 64) _ s2 bits)
       (stands-num 1 (p .length) _ s3 (omega (arith, g .most))) (stands-num 1 x _ s4 (flag-byte (isSome (r .lease .except)))) (stands-num 8 (r .end) _ s5 (end-fits (r .end) (g .end)))
-      ∙ ap (λ q. record { owner = identity q (r .owner .iaid); lease = delegation (p .bits / 2 ^ 64) (p .length) x; end = r .end }) d0
+      ∙ ap (λ q. record { owner = identity q (r .owner .iaid); lease = leased (p .bits / 2 ^ 64) (p .length) (not (eqb x 0)); end = r .end }) d0
       ∙ ap (λ q. record { owner = r .owner; lease = q; end = r .end }) (lease-told s (r .lease) (omega (arith, g .most)) (g .aligned) (g .except))
 
 -- ---------------------------------------------------------------- a table

@@ -11,13 +11,13 @@ use lib.Dec.{eqb, leb, ltb}
 use lib.ListN.{length, length-append, length-map}
 use borrow.Author.Tests.{eq-eqb, eqb-true, eqb-false, leb-true, le-leb, leb-false, ltb-true, ltb-false, lt-ltb, not-true, not-false}
 use Rattle.rules.specs.Words.{all, noTwo, keep, first, consIf}
-use Rattle.rules.specs.Prefix.{Prefix, zeroAfter, inside, overlap, samePrefix, last64, Lease, fits}
+use Rattle.rules.specs.Prefix.{Prefix, zeroAfter, inside, overlap, samePrefix, last64, Lease, fits, exceptFor}
 use Rattle.rules.specs.Clock.{Moment, Lifetime, forEver, never, plus, goodEnd, extended}
 use Rattle.rules.specs.Identity.{Identity, goodIdentity, goodDuid, sameIdentity}
 use Rattle.rules.specs.Settings.{Settings, goodSettings}
 use Rattle.rules.specs.Table.{Record, Table, isBinding, area, mayStand, live, inPlace, giveUp, current, goodExcept, goodRecord, sound}
 use Rattle.rules.specs.Choose.{hits, free, choose}
-use Rattle.rules.specs.Box.{binding, leaseFor, exceptFor, bind, longer, extend, isFreed, hintOf, noBinding, success, leaves, Asked, serveSolicit, serveRequest, serveRenew, serveRebind, serveRelease, serve}
+use Rattle.rules.specs.Box.{binding, leaseFor, bind, longer, extend, isFreed, hintOf, noBinding, success, leaves, Asked, serveSolicit, serveRequest, serveRenew, serveRebind, serveRelease, serve}
 use Rattle.rules.specs.declared.Kind.{Kind}
 use Rattle.rules.specs.declared.Kind.the-variants.{Solicit, Request, Renew, Rebind, Release}
 use Rattle.laws.specs.Tests.{both, both-made, lt-or-ge}

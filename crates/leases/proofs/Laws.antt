@@ -9,17 +9,17 @@ use lib.Pow.{shl-shr}
 use lib.ListN.{length, take, drop, replicate, length-append, length-replicate, take-append-drop}
 use lib.Seq.{drop-drop}
 use Rattle.rules.specs.Words.{part, splice, filled, num, be, numAt}
-use Rattle.rules.specs.Prefix.{Prefix, Lease}
+use Rattle.rules.specs.Prefix.{Prefix, Lease, exceptFor}
 use Rattle.rules.specs.Identity.{Identity, identity}
-use Rattle.rules.specs.TableBytes.{tableSize, headerSize, recordSize, place, flag, isSome, rowAt, recordBytes, tableBytes, countOf, tableOf, soundBytes}
-use Rattle.rules.specs.Box.{exceptFor, bind}
+use Rattle.rules.specs.TableBytes.{tableSize, headerSize, recordSize, place, flag, isSome, rowAt, recordBytes, tableBytes, countOf, tableOf, soundBytes, leased}
+use Rattle.rules.specs.Box.{bind}
 use Rattle.laws.specs.Parts.{length-part, part-part, splice-splice, splice-all}
 use Rattle.laws.specs.Numbers.{length-be}
 use Rattle.laws.specs.Rows.{kept, dropped}
 use Rattle.laws.specs.Same.{filled-length}
 use Rattle.laws.specs.One.{changed, without}
 use Rattle.laws.specs.Change.{settingsBytes, empty-bytes, liveRow, tidied, ending, onRecords, held, sound-fits, tidied-bytes, extended-bytes, bound-bytes, removed-bytes}
-use Rattle.leases.specs.Values.{leased, settingsFor}
+use Rattle.leases.specs.Values.{settingsFor}
 
 -- n bytes e were written over l from a place, and gave m
 pub record Wrote (at n : ℕ) (e l m : List ℕ) : Type 0 where

@@ -6,11 +6,10 @@ ghost use Prim.Native.Nat.{_+_, _-_, _*_, _≤_, _<_};
 ghost use lib.ListN.{length};
 ghost use Rattle.rules.specs.Words.{splice, filled, be};
 ghost use Rattle.rules.specs.Identity.{identity};
-ghost use Rattle.rules.specs.TableBytes.{flag, recordBytes, tableBytes, countOf, tableOf, soundBytes};
+ghost use Rattle.rules.specs.TableBytes.{flag, leased, recordBytes, tableBytes, countOf, tableOf, soundBytes};
 ghost use Rattle.rules.specs.Box.{bind};
 ghost use Rattle.laws.specs.One.{changed, without};
 ghost use Rattle.laws.specs.Change.{ending, onRecords};
-ghost use Rattle.leases.specs.Values.{leased};
 
 // The end of record k is set.
 pub fn extend_at(t: &mut [u8], k: usize, end: u64)

@@ -12,7 +12,7 @@ use lib.Dec.{eqb, leb, ltb}
 use lib.ListN.{length, getD}
 use Rattle.rules.specs.Words.{all, any, keep, first}
 use Rattle.rules.specs.Refusals.{Res, done, unless, badTime, littleRoom, wrongSize}
-use Rattle.rules.specs.Prefix.{Prefix, samePrefix, inside, last64, Lease, lease}
+use Rattle.rules.specs.Prefix.{Prefix, samePrefix, inside, Lease, lease, exceptFor}
 use Rattle.rules.specs.Message.{Listed, Ia, Message, read, wellFormed, print}
 use Rattle.rules.specs.Clock.{Moment, Lifetime, forEver, plus, extended}
 use Rattle.rules.specs.Identity.{Duid, Identity, identity, served, kindOf, answerType, isRelease, rowHolds}
@@ -28,10 +28,6 @@ abbrev pub binding : Identity → List Record → Option Record
 binding i rs = first (isBinding i) rs
 
 -- "The new binding excludes its last /64 exactly if exclusion is on and code 67 is in an Option Request."
-abbrev pub exceptFor : Bool → Prefix → Option Prefix
-exceptFor true p = some (last64 p)
-exceptFor false p = none
-
 abbrev pub leaseFor : Settings → Bool → Prefix → Lease
 leaseFor s asks p = lease p (exceptFor (s .exclusion && asks) p)
 

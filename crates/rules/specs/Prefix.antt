@@ -98,6 +98,11 @@ pub record Lease : Type 0 where
 abbrev pub lease : Prefix → Option Prefix → Lease
 lease p e = record { prefix = p; except = e }
 
+-- the last /64 of p, where that is excluded
+abbrev pub exceptFor : Bool → Prefix → Option Prefix
+exceptFor true p = some (last64 p)
+exceptFor false p = none
+
 -- "with its excluded prefix or none, an encoding"
 abbrev pub leaseEncodable : Prefix → Option Prefix → Bool
 leaseEncodable p none = fits p

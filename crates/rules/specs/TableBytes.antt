@@ -10,7 +10,7 @@ use mathlib.Core.Option.{Option, none, some}
 use lib.Dec.{eqb}
 use lib.ListN.{length, replicate}
 use Rattle.rules.specs.Words.{each, from, part, sameBytes, filled, be, numAt}
-use Rattle.rules.specs.Prefix.{Prefix, prefix, last64, Lease, lease}
+use Rattle.rules.specs.Prefix.{Prefix, prefix, Lease, lease, exceptFor}
 use Rattle.rules.specs.Identity.{identity}
 use Rattle.rules.specs.Settings.{Settings}
 use Rattle.rules.specs.Table.{Record, Table, mostRecords, sound}
@@ -55,17 +55,14 @@ tableBytes t = filled tableSize (headerBytes t ++ each (map recordBytes (t .reco
 
 -- ---------------------------------------------------------------- read
 
-abbrev pub exceptIf : Bool → Prefix → Option Prefix
-exceptIf true p = some (last64 p)
-exceptIf false p = none
-
-abbrev pub delegation : ℕ → ℕ → ℕ → Lease
-delegation upper a ex = lease (prefix (upper * 2 ^ 64) a) (exceptIf (not (eqb ex 0)) (prefix (upper * 2 ^ 64) a))
+-- the delegation of length a by the upper half of its prefix, and whether its last /64 is excluded
+abbrev pub leased : ℕ → ℕ → Bool → Lease
+leased upper a excluded = lease (prefix (upper * 2 ^ 64) a) (exceptFor excluded (prefix (upper * 2 ^ 64) a))
 
 unfoldable pub recordOf : List ℕ → Record
 recordOf b = record {
   owner = identity (part 23 (numAt b 0 1) b) (numAt b 1 4);
-  lease = delegation (numAt b 5 8) (numAt b 13 1) (numAt b 14 1);
+  lease = leased (numAt b 5 8) (numAt b 13 1) (not (eqb (numAt b 14 1) 0));
   end = numAt b 15 8;
 }
 

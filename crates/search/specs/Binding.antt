@@ -2,11 +2,9 @@
 use Prim.Native.Nat.{ℕ}
 use mathlib.Core.Option.{Option, none, some}
 use lib.ListN.{take}
-use Rattle.rules.specs.Prefix.{lease}
 use Rattle.rules.specs.Identity.{identity}
 use Rattle.rules.specs.Table.{Record}
-use Rattle.rules.specs.TableBytes.{exceptIf}
-use Rattle.prefix.specs.Upper.{upper}
+use Rattle.rules.specs.TableBytes.{leased}
 use Rattle.search.specs.declared.Binding.{Binding}
 use Rattle.search.specs.declared.Place.{Place}
 use Rattle.search.specs.declared.Place.the-variants.{At, Nothing}
@@ -14,7 +12,7 @@ use Rattle.search.specs.declared.Place.the-variants.{At, Nothing}
 abbrev pub bindingOf : Binding → Record
 bindingOf b = record {
   owner = identity (take (b .len) (b .duid)) (b .iaid);
-  lease = lease (upper (b .prefix) (b .length)) (exceptIf (b .excluded) (upper (b .prefix) (b .length)));
+  lease = leased (b .prefix) (b .length) (b .excluded);
   end = b .end .0;
 }
 
