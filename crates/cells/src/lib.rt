@@ -3,7 +3,7 @@ ghost use mathlib.Core.Path.{_≡_};
 ghost use Prim.Native.Nat.{ℕ, _+_, _-_, _*_, _≤_, _<_, _^_};
 ghost use lib.Dec.{eqb};
 ghost use lib.ListN.{length, replicate};
-ghost use Rattle.rules.specs.Words.{all, part, splice, sameBytes, num, be, numAt};
+ghost use Rattle.rules.specs.Words.{all, part, splice, filled, sameBytes, num, be, numAt};
 
 pub fn wide(x: u8) -> u64
     ensures { λ r. ⌜ (r ≡ x) × (r < 256) ⌝ }
@@ -73,6 +73,16 @@ pub fn clear(t: &mut [u8], at: usize, n: usize)
         t[at + k] = 0;
         k += 1;
     }
+}
+
+// The bytes of s into those from `at`, and zeros after them: n in all.
+pub fn put_filled(t: &mut [u8], at: usize, n: usize, s: &[u8])
+    requires { ⌜ (length (now s) ≤ n) × (at + n ≤ length (now t)) ⌝ }
+    ensures { λ _. ⌜ now (t .exit) ≡ splice at (filled n (now (s .entry))) (now (t .entry)) ⌝ }
+{
+    let k = s.len();
+    copy(t, at, s);
+    clear(t, at + k, n - k);
 }
 
 // Whether the bytes from `at` are those of s.

@@ -8,18 +8,17 @@ use native.Mathlib.Omega.{arith}
 use lib.Dec.{leb}
 use lib.Pow.{pow-mono}
 use lib.ListN.{length}
-use borrow.Author.Tests.{leb-true, le-leb, not-true, not-false}
-use Rattle.rules.specs.Words.{all, first, from}
+use borrow.Author.Tests.{leb-true, not-true, not-false}
+use Rattle.rules.specs.Words.{first, from}
 use Rattle.rules.specs.Prefix.{Prefix, prefix, size, zeroAfter}
-use Rattle.rules.specs.Settings.{Settings, goodSettings}
-use Rattle.rules.specs.Table.{Record, area, goodRecord}
-use Rattle.rules.specs.TableBytes.{tableSize, recordAt}
+use Rattle.rules.specs.Settings.{Settings}
+use Rattle.rules.specs.Table.{Record, area}
+use Rattle.rules.specs.TableBytes.{recordAt}
 use Rattle.rules.specs.Choose.{wanted, wantedFor, hits, isPlace, lowest, shortestFrom, choose}
-use Rattle.laws.specs.Loops.{from-length, firstPlace, at, first-place, place-passes, all-at, all-sub}
+use Rattle.laws.specs.Loops.{from-length, firstPlace, at, first-place, place-passes, all-at}
 use Rattle.laws.specs.Prefix.{half-front}
 use Rattle.laws.specs.Choose.{Lengths, wanted-least}
-use Rattle.laws.specs.Sound.{good-facts, record-facts, sound-aligned}
-use Rattle.laws.specs.Choosing.{same-shortest, same-place, same-choose, hint-place, choose-full, choose-unasked, choose-asked, choose-other}
+use Rattle.laws.specs.Choosing.{same-shortest, same-place, hint-place, choose-full, choose-unasked, choose-asked, choose-other}
 use Rattle.laws.specs.Places.{lastPlace, Walking, walk-start, walk-free, walk-up, walk-on, walk-full, half-place}
 use Rattle.prefix.specs.Upper.{upper}
 use Rattle.search.specs.Binding.{placeOf}
@@ -118,26 +117,3 @@ module _ (l : List ℕ) (n pool width shortest standard : ℕ) where
       other {w = w} t ew e =
           e ∙ same-shortest (chooser pool width 0 0) set (recs l n) refl (61 - w) w ∙ ap (λ (k : ℕ). shortestFrom (61 - k) set (recs l n) k) ew
           ∙ sym (rw (not-false hinted q) (choose-other set (recs l n) room (prefix (u * 2 ^ 64 + m) a) (place-is ∙ t)))
-
--- ---------------------------------------------------------------- for callers: the records and settings of a sound table
-
-pub walkable : (s : Settings) (l : List ℕ) (n pool width : ℕ) → s .pool ≡ upper pool width → goodSettings s ≡ true → all (goodRecord s) (recs l n) ≡ true
-    → n ≤ 256 → tableSize ≤ length l → Walkable l n pool width
-walkable s l n pool width e g r few long =
-    let f = good-facts s g in
-    let w : s .pool .length ≡ width = ap (λ (p : Prefix). p .length) e in
-    record {
-      few = few;
-      room = long;
-      some = omega (arith, f .least-32);
-      zeros = subst (λ (p : Prefix). zeroAfter p ≡ true) e (f .lengths .aligned);
-      aligned = sound-aligned s (recs l n) r;
-      short = all-sub (goodRecord s) (λ q. leb (area q .length) 60) (λ q h. le-leb _ _ (record-facts s q h .most)) (recs l n) r;
-    }
-
-module _ (s : Settings) (pool width : ℕ) (e : s .pool ≡ upper pool width) where
-  pub lengths : Lengths s → Lengths (chooser pool width (s .shortest) (s .standard))
-  lengths g = record { aligned = subst (λ (p : Prefix). zeroAfter p ≡ true) e (g .aligned); pool-shortest = subst (λ (p : Prefix). p .length ≤ s .shortest) e (g .pool-shortest); shortest-standard = g .shortest-standard; standard-60 = g .standard-60 }
-
-  pub chosen : (rs : List Record) (h : Option Prefix) → choose (chooser pool width (s .shortest) (s .standard)) rs h ≡ choose s rs h
-  chosen rs h = same-choose (chooser pool width (s .shortest) (s .standard)) s rs (sym e) refl refl h

@@ -38,10 +38,8 @@ fn past(t: &[u8], i: usize, a: u64) -> u64
     requires { ⌜ (i < 256) × (39344 ≤ length (now t)) × (1 ≤ a) × (a ≤ 60) × (zeroAfter (area (recordAt (now t) i)) ≡ true) × (area (recordAt (now t) i) .length ≤ 60) ⌝ }
     ensures { λ r. ⌜ r ≡ lastPlace (area (recordAt (now (t .entry)) i)) a + 1 ⌝ }
 {
-    let o = 176 + i * 153;
-    let q = cells::get(t, o + 5, 8);
-    let b = cells::get(t, o + 13, 1);
-    last_place(q, b, a) + 1
+    let q = fields::area_at(t, i);
+    last_place(q.upper, q.length, a) + 1
 }
 
 // The lowest place of length a in the pool that none of n records overlaps: each try compares with the records in table order until

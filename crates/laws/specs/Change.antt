@@ -31,7 +31,7 @@ use Rattle.laws.specs.Kinds.{identity-true, identity-same}
 use Rattle.laws.specs.Rows.{rows, kept, dropped, Sized, no-more, one-more, each-length, rows-each, sized-keep}
 use Rattle.laws.specs.Same.{filled-length}
 use Rattle.laws.specs.Sound.{good-facts, Sound, give-up, give-up-fine}
-use Rattle.laws.specs.Represent.{record-round, own-few, sized, table-rows, table-length, table-round, bytes-sound, sound-bytes}
+use Rattle.laws.specs.Represent.{record-round, own-few, sized, table-rows, table-length, represented, sound-bytes}
 
 -- ---------------------------------------------------------------- what is put into one of two lists
 
@@ -243,6 +243,10 @@ module _ (last : Moment) (s : Settings) {es : List (List ℕ)} (own : length (s 
 abbrev pub liveRow : Moment → List ℕ → Bool
 liveRow now e = ltb now (numAt e 15 8)
 
+pub live-is : (now : Moment) (e : List ℕ) → live now (recordOf e) ≡ liveRow now e
+unfolding recordOf
+live-is now e = refl
+
 -- the last time set, and every ended record dropped
 abbrev pub tidied : Moment → Table → Table
 tidied now t = record { settings = t .settings; last = now; records = current now (t .records) }
@@ -252,8 +256,7 @@ keep-same p f g h [] e = refl
 keep-same p f g h (x ∷ l) e = let q = both (p x) (all p l) e in rw (h x (q .0), keep-same p f g h l (q .1))
 
 live-row : (s : Settings) (now : Moment) (r : Record) → fits (s .pool) ≡ true → goodRecord s r ≡ true → liveRow now (recordBytes r) ≡ live now r
-unfolding recordOf
-live-row s now r pool good = ap (live now) (record-round s r pool good)
+live-row s now r pool good = sym (live-is now (recordBytes r)) ∙ ap (live now) (record-round s r pool good)
 
 rows-live : (s : Settings) (now : Moment) (rs : List Record) → fits (s .pool) ≡ true → all (goodRecord s) rs ≡ true
     → keep (liveRow now) (map recordBytes rs) ≡ map recordBytes (current now rs)
@@ -393,10 +396,7 @@ held b h =
 -- the array that is left when the ended records are dropped
 pub tidied-held : (b c : List ℕ) (now : Moment) → soundBytes b ≡ true → now < 2 ^ 48 → c ≡ tableBytes (tidied now (tableOf b))
     → (soundBytes c ≡ true) × (tableOf c ≡ tidied now (tableOf b))
-tidied-held b c now h soon e =
-    let t = tidied now (tableOf b) in
-    let sd : Sound t = tidied-sound (tableOf b) (held b h .sound) now soon in
-    (rw e (bytes-sound t sd), rw e (table-round t sd))
+tidied-held b c now h soon e = represented (tidied now (tableOf b)) (tidied-sound (tableOf b) (held b h .sound) now soon) e
 
 module _ (b : List ℕ) (h : soundBytes b ≡ true) (i : Identity) (k : ℕ) (at : firstPlace (isBinding i) (tableOf b .records) 0 ≡ some k) where
   pub removed-there : onRecords (without k) (tableOf b) ≡ onRecords (giveUp (isBinding i)) (tableOf b)

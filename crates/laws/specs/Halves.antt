@@ -84,7 +84,7 @@ zero-none p a h z = zero-upper p a (omega arith) ∙ ap (λ (k : ℕ). eqb (p % 
 -- ---------------------------------------------------------------- both halves
 
 -- numbers are the same where their upper and their lower bits are
-split-test : (x y s : ℕ) → eqb x y ≡ eqb (x / 2 ^ s) (y / 2 ^ s) && eqb (x % 2 ^ s) (y % 2 ^ s)
+pub split-test : (x y s : ℕ) → eqb x y ≡ eqb (x / 2 ^ s) (y / 2 ^ s) && eqb (x % 2 ^ s) (y % 2 ^ s)
 split-test x y s = by (eqb (x / 2 ^ s) (y / 2 ^ s)) refl
   where
     by : (t : Bool) → eqb (x / 2 ^ s) (y / 2 ^ s) ≡ t → eqb x y ≡ t && eqb (x % 2 ^ s) (y % 2 ^ s)

@@ -7,6 +7,7 @@ pub mod Prefix
 pub mod Walk
 pub mod Bits
 pub mod Halves
+pub mod Last
 pub mod Exclude
 pub mod Kinds
 pub mod Rows
@@ -27,15 +28,17 @@ pub mod Lone
 pub mod Sent
 pub mod Said
 pub mod Represent
-pub mod Records
 pub mod Places
 pub mod Choosing
 pub mod InPlace
+pub mod Records
 pub mod One
 pub mod Change
+pub mod Keeps
 pub mod Writes
 pub mod Fields
 pub mod RouterFields
 pub mod RouterFlat
 pub mod RouterRepresent
 pub mod RouterChange
+pub mod Accepted

@@ -1,5 +1,6 @@
 -- One element of a list: changed, left out, and the only one that passes a test.
 --   changed, without     the list with the element at a place changed, or left out
+--   all-.., two-..       what holds of all, and of every two, then still holds
 --   Only                 one element passes, at that place; what a filter and a map then do
 --   only                 the first place, where no two may pass
 use mathlib.Core.Path.{_≡_, refl, ap, subst}
@@ -41,6 +42,40 @@ module _ {A : Type 0} where
   changed-same f h g zero i k e = refl
   changed-same f h g (suc n) i zero e = let m : i + 0 ≡ i = omega arith in rw (rw m at e)
   changed-same f h g (suc n) i (suc k) e = let m : i + suc k ≡ i + 1 + k = omega arith in ap (λ l. g i ∷ l) (changed-same f h g n (i + 1) k (rw m at e))
+
+  -- what holds of all, and of every two: kept by a change that keeps it of each
+  pub all-changed : (f : A → Bool) (g : A → A) → ((x : A) → f x ≡ true → f (g x) ≡ true) → (k : ℕ) (l : List A) → all f l ≡ true → all f (changed g k l) ≡ true
+  all-changed f g h k [] e = refl
+  all-changed f g h zero (x ∷ l) e = let p = both (f x) (all f l) e in rw (h x (p .0)) (p .1)
+  all-changed f g h (suc k) (x ∷ l) e = let p = both (f x) (all f l) e in rw (p .0) (all-changed f g h k l (p .1))
+
+  pub two-changed : (r : A → A → Bool) (g : A → A) → ((x y : A) → r x y ≡ true → (r (g x) y ≡ true) × (r x (g y) ≡ true)) → (k : ℕ) (l : List A)
+      → noTwo r l ≡ true → noTwo r (changed g k l) ≡ true
+  two-changed r g h k [] e = refl
+  two-changed r g h zero (x ∷ l) e =
+      let p = both (all (r x) l) (noTwo r l) e in
+      rw (all-sub (r x) (r (g x)) (λ y q. h x y q .0) l (p .0)) (p .1)
+  two-changed r g h (suc k) (x ∷ l) e =
+      let p = both (all (r x) l) (noTwo r l) e in
+      rw (all-changed (r x) g (λ y q. h x y q .1) k l (p .0)) (two-changed r g h k l (p .1))
+
+  -- and with one left out
+  pub all-without : (f : A → Bool) (k : ℕ) (l : List A) → all f l ≡ true → all f (without k l) ≡ true
+  all-without f k [] e = refl
+  all-without f zero (x ∷ l) e = both (f x) (all f l) e .1
+  all-without f (suc k) (x ∷ l) e = let p = both (f x) (all f l) e in rw (p .0) (all-without f k l (p .1))
+
+  pub two-without : (r : A → A → Bool) (k : ℕ) (l : List A) → noTwo r l ≡ true → noTwo r (without k l) ≡ true
+  two-without r k [] e = refl
+  two-without r zero (x ∷ l) e = both (all (r x) l) (noTwo r l) e .1
+  two-without r (suc k) (x ∷ l) e =
+      let p = both (all (r x) l) (noTwo r l) e in
+      rw (all-without (r x) k l (p .0)) (two-without r k l (p .1))
+
+  pub without-few : (k : ℕ) (l : List A) → length (without k l) ≤ length l
+  without-few k [] = omega arith
+  without-few zero (x ∷ l) = omega arith
+  without-few (suc k) (x ∷ l) = let r = without-few k l in omega arith
 
 module _ {A B : Type 0} (h : A → B) where
   pub map-changed : (f : A → A) (g : B → B) → ((x : A) → h (f x) ≡ g (h x)) → (k : ℕ) (l : List A) → map h (changed f k l) ≡ changed g k (map h l)

@@ -265,6 +265,9 @@ module _ (t : Table) (sd : Sound t) where
   unfolding soundBytes
   bytes-sound = rw (table-round, sound-made t sd, bytes-refl (tableBytes t))
 
+  pub represented : {c : List ℕ} → c ≡ tableBytes t → (soundBytes c ≡ true) × (tableOf c ≡ t)
+  represented e = (rw e bytes-sound, rw e table-round)
+
 -- and a sound array is the representation of the table that it says
 pub sound-bytes : (b : List ℕ) → soundBytes b ≡ true → Sound (tableOf b) × (tableBytes (tableOf b) ≡ b)
 unfolding soundBytes

@@ -5,13 +5,13 @@
 --   begin-.., again-.., close-made, accept-.., start-made, hold-..   the writes of each change, by the way that code takes
 use mathlib.Core.Path.{_≡_, refl, sym, ap, _∙_, subst}
 use mathlib.Core.Bool.{Bool, true, false, cond, _||_, or-assoc, false≢true}
-use mathlib.Core.List.{List, [], _∷_, _++_, map, append-assoc}
+use mathlib.Core.List.{List, [], _∷_, _++_, map}
 use mathlib.Core.Option.{Option, none, some}
 use Prim.Native.Nat.{ℕ, _+_, _-_, _%_, _≤_, _<_, _^_}
 use native.Mathlib.Omega.{arith}
 use lib.Dec.{eqb, leb}
 use lib.Seq.{take-take, take-at}
-use lib.ListN.{length, take, drop, set, replicate, length-append}
+use lib.ListN.{length, take, drop, set, replicate}
 use borrow.Author.Tests.{eq-eqb, ne-eqb, leb-true, leb-false, lt-ltb, le-ltb}
 use Rattle.rules.specs.Words.{part, splice, filled, num, be, numAt}
 use Rattle.rules.specs.Refusals.{done, unless}
@@ -74,18 +74,9 @@ byte-written t s at k lt h p q =
     onto (at + 1) s (p ∙ ap (λ l. splice at l t) (be-one k lt)) q ∙ splice-splice at (at + 1) (k ∷ []) s t refl h
 
 -- a DUID behind its length, with zeros after it
-pub duid-written : (t d : List ℕ) (at n : ℕ) {c : List ℕ} → n ≡ length d → n ≤ 130 → at + 131 ≤ length t
-    → c ≡ splice (at + 1 + n) (replicate (130 - n) 0) (splice (at + 1) d (splice at (be 1 n) t)) → c ≡ splice at (duidBytes d) t
-unfolding filled
-duid-written t d at n e h m q =
-    let o = be 1 n in
-    let z : List ℕ = replicate (130 - n) 0 in
-    let l : length (o ++ d) ≡ 1 + n = length-append o d ∙ omega (arith, length-be 1 n) in
-    q
-    ∙ ap (splice (at + 1 + n) z) (splice-splice at (at + 1) o d t (omega (arith, length-be 1 n)) (omega arith))
-    ∙ splice-splice at (at + 1 + n) (o ++ d) z t (omega arith) (omega arith)
-    ∙ ap (λ k. splice at k t) (append-assoc o d z)
-    ∙ ap (λ k. splice at (be 1 k ++ (d ++ replicate (130 - k) 0)) t) e
+pub duid-written : (t d : List ℕ) (at : ℕ) {b c : List ℕ} → at ≤ length t → b ≡ splice at (be 1 (length d)) t → c ≡ splice (at + 1) (filled 130 d) b → c ≡ splice at (duidBytes d) t
+duid-written t d at h p q =
+    onto (at + 1) (filled 130 d) p q ∙ splice-splice at (at + 1) (be 1 (length d)) (filled 130 d) t (ap (λ n. at + n) (sym (length-be 1 (length d)))) h
 
 -- ---------------------------------------------------------------- what is read of the state
 

@@ -8,9 +8,9 @@ use lib.Dec.{eqb, leb}
 use lib.ListN.{length, getD, take, drop, replicate, length-append, length-take, length-drop, length-replicate, take-append-drop}
 use lib.Seq.{drop-drop, length-take-le}
 use borrow.Author.Tests.{eqb-true, eq-eqb, ne-eqb, le-leb, lt-leb}
-use Rattle.rules.specs.Words.{all, part, filled, sameBytes, num, be, numAt}
+use Rattle.rules.specs.Words.{all, part, splice, filled, sameBytes, num, be, numAt}
 use Rattle.laws.specs.Tests.{both, both-made, false-true, same-test}
-use Rattle.laws.specs.Parts.{length-part}
+use Rattle.laws.specs.Parts.{length-part, splice-splice}
 use Rattle.laws.specs.Numbers.{Bytes, bytes-part, be-num, numAt-is, length-be}
 use Rattle.laws.specs.Kinds.{bytes-true, bytes-refl}
 
@@ -45,9 +45,19 @@ same-zeros (suc n) (x ∷ b) e = rw (same-zeros n b (omega arith))
 pub same-length : (x y : List ℕ) → sameBytes x y ≡ true → length x ≡ length y
 same-length x y e = ap length (bytes-true x y e)
 
+pub other-length : (x y : List ℕ) → (length x ≡ length y → ⊥) → sameBytes x y ≡ false
+other-length x y h = same-bool (sameBytes x y) false (λ e. absurd (h (same-length x y e))) (λ e. absurd (false-true e))
+
 pub filled-length : (n : ℕ) (l : List ℕ) → length l ≤ n → length (filled n l) ≡ n
 unfolding filled
 filled-length n l h = rw (length-append, length-replicate) (omega arith)
+
+-- a list put in, and then zeros behind it
+pub filled-put : (at n : ℕ) (d l : List ℕ) {c e : List ℕ} → at ≤ length l → c ≡ splice at d l → e ≡ splice (at + length d) (replicate (n - length d) 0) c
+    → e ≡ splice at (filled n d) l
+unfolding filled
+filled-put at n d l h p q =
+    q ∙ ap (splice (at + length d) (replicate (n - length d) 0)) p ∙ splice-splice at (at + length d) d (replicate (n - length d) 0) l refl h
 
 -- a number beside the bytes that it was read of
 pub same-number : (b : List ℕ) (at n : ℕ) → Bytes b → at + n ≤ length b → be n (numAt b at n) ≡ part at n b

@@ -141,6 +141,12 @@ module _ (s : Settings) (f : Record → Bool) (rs : List Record) where
 
 -- ---------------------------------------------------------------- records extended
 
+-- a good record with another good end
+pub ending-good : (s : Settings) (r : Record) (e : Moment) → goodEnd e ≡ true → goodRecord s r ≡ true → goodRecord s (record { owner = r .owner; lease = r .lease; end = e }) ≡ true
+ending-good s r e h g =
+    let f = record-facts s r g in
+    record-made s _ (record { identity = f .identity; in-pool = f .in-pool; least = f .least; most = f .most; aligned = f .aligned; except = f .except; end = h })
+
 -- an end that a lifetime gives is good
 pub plus-good : (now : Moment) (v : Lifetime) → now < 2 ^ 48 → v ≤ forEver → goodEnd (plus now v) ≡ true
 unfolding plus
@@ -168,17 +174,7 @@ module _ (s : Settings) (i : Identity) (now : Moment) (v : Lifetime) where
     where
       by : (r : Record) (b : Bool) → goodRecord s r ≡ true → goodRecord s (cond b (longer now v r) r) ≡ true
       by r false g = g
-      by r true g =
-          let f = record-facts s r g in
-          record-made s (longer now v r) (record {
-            identity = f .identity;
-            in-pool = f .in-pool;
-            least = f .least;
-            most = f .most;
-            aligned = f .aligned;
-            except = f .except;
-            end = max-good (r .end) (plus now v) (f .end) (plus-good now v h l);
-          })
+      by r true g = ending-good s r _ (max-good (r .end) (plus now v) (record-facts s r g .end) (plus-good now v h l)) g
 
   pub extend-together : (rs : List Record) → noTwo mayStand rs ≡ true → noTwo mayStand (extend i now v rs) ≡ true
   unfolding extend mayStand
@@ -223,15 +219,6 @@ module _ (s : Settings) (i : Identity) (asks : Bool) (now : Moment) (rs : List R
     end = plus-good now (s .valid) soon (good .valid-32);
   })
 
-  pub bind-good : all (goodRecord s) rs ≡ true → all (goodRecord s) (bind i (leaseFor s asks p) (plus now (s .valid)) rs) ≡ true
-  bind-good e = all-last (goodRecord s) rs fresh e fresh-good
-
-  pub bind-together : binding i rs ≡ none → noTwo mayStand rs ≡ true → noTwo mayStand (bind i (leaseFor s asks p) (plus now (s .valid)) rs) ≡ true
-  unfolding mayStand
-  bind-together b e =
-      two-last mayStand rs fresh e
-      (all-both (λ r. not (hits p r)) (λ r. not (isBinding i r)) rs (free-all rs p (c .place .is-free)) (first-none (isBinding i) rs b))
-
 -- ---------------------------------------------------------------- one IA_PD served
 
 -- what the records of a sound table have, whatever the last time
@@ -247,6 +234,18 @@ give-up-fine s f rs g = record {
   together = give-up-together s f rs (g .together);
 }
 
+-- a good record of an identity that isn't bound yet, with a prefix that is free, put last
+pub last-fine : (s : Settings) (rs : List Record) (r : Record) → Fine s rs → length rs < 256 → goodRecord s r ≡ true → free rs (area r) ≡ true → binding (r .owner) rs ≡ none
+    → Fine s (rs ++ (r ∷ []))
+unfolding mayStand
+last-fine s rs r fine room g f b = record {
+  few = rw length-append (omega arith);
+  good = all-last (goodRecord s) rs r (fine .good) g;
+  together =
+      two-last mayStand rs r (fine .together)
+      (all-both (λ q. not (hits (area r) q)) (λ q. not (isBinding (r .owner) q)) rs (free-all rs (area r) f) (first-none (isBinding (r .owner)) rs b));
+}
+
 module _ (s : Settings) (now : Moment) (q : Asked) (rs : List Record) (good : Good s) (gi : goodIdentity (q .who) ≡ true) (soon : now < 2 ^ 48) (fine : Fine s rs) where
   extend-fine : Fine s (extend (q .who) now (s .valid) rs)
   extend-fine = record {
@@ -259,11 +258,7 @@ module _ (s : Settings) (now : Moment) (q : Asked) (rs : List Record) (good : Go
       → Fine s (bind (q .who) (leaseFor s (q .asks) p) (plus now (s .valid)) rs)
   bind-fine hint p b e =
       let c = choose-chosen s rs (good .lengths) hint e in
-      record {
-        few = rw length-append (omega (arith, choose-room s rs hint e));
-        good = bind-good s (q .who) (q .asks) now rs p good gi soon c (fine .good);
-        together = bind-together s (q .who) (q .asks) now rs p good gi soon c b (fine .together);
-      }
+      last-fine s rs (fresh s (q .who) (q .asks) now rs p good gi soon c) fine (choose-room s rs hint e) (fresh-good s (q .who) (q .asks) now rs p good gi soon c) (c .place .is-free) b
 
   asked-fine : (f : Option Record) (c : Option Prefix) → binding (q .who) rs ≡ f → choose s rs (hintOf (q .listed)) ≡ c
       → Fine s (serveRequest s now q rs f c .records)

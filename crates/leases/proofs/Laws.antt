@@ -1,24 +1,24 @@
 -- What the writes of a function make, one after another.
 use mathlib.Core.Path.{_≡_, refl, sym, ap, _∙_}
 use mathlib.Core.Bool.{Bool, true, false}
-use mathlib.Core.List.{List, [], _∷_, _++_, append-assoc}
-use Prim.Native.Nat.{ℕ, _+_, _-_, _*_, _%_, _≤_, _<_, _^_}
+use mathlib.Core.List.{List, [], _++_, append-assoc}
+use Prim.Native.Nat.{ℕ, _+_, _-_, _*_, _≤_, _<_}
 use native.Mathlib.Omega.{arith}
-use lib.Dec.{ltb}
 use lib.Pow.{shl-shr}
 use lib.ListN.{length, take, drop, replicate, length-append, length-replicate, take-append-drop}
 use lib.Seq.{drop-drop}
-use Rattle.rules.specs.Words.{part, splice, filled, num, be, numAt}
+use Rattle.rules.specs.Words.{part, splice, filled, be}
 use Rattle.rules.specs.Prefix.{Prefix, Lease, exceptFor}
 use Rattle.rules.specs.Identity.{Identity, identity}
-use Rattle.rules.specs.TableBytes.{tableSize, headerSize, recordSize, place, flag, isSome, rowAt, recordBytes, tableBytes, countOf, tableOf, soundBytes, leased}
+use Rattle.rules.specs.Table.{live}
+use Rattle.rules.specs.TableBytes.{tableSize, headerSize, recordSize, place, flag, isSome, rowAt, recordBytes, recordAt, tableBytes, countOf, tableOf, soundBytes, leased}
 use Rattle.rules.specs.Box.{bind}
-use Rattle.laws.specs.Parts.{length-part, part-part, splice-splice, splice-all}
+use Rattle.laws.specs.Parts.{length-part, splice-splice, splice-all}
 use Rattle.laws.specs.Numbers.{length-be}
 use Rattle.laws.specs.Rows.{kept, dropped}
 use Rattle.laws.specs.Same.{filled-length}
 use Rattle.laws.specs.One.{changed, without}
-use Rattle.laws.specs.Change.{settingsBytes, empty-bytes, liveRow, tidied, ending, onRecords, held, sound-fits, tidied-bytes, extended-bytes, bound-bytes, removed-bytes}
+use Rattle.laws.specs.Change.{settingsBytes, empty-bytes, liveRow, live-is, tidied, ending, onRecords, held, sound-fits, tidied-bytes, extended-bytes, bound-bytes, removed-bytes}
 use Rattle.leases.specs.Values.{settingsFor}
 
 -- n bytes e were written over l from a place, and gave m
@@ -38,8 +38,8 @@ more {at} {n} {w} {e} {l} f h g p q = record {
 
 -- ---------------------------------------------------------------- ended records dropped
 
-pub live-read : (b : List ℕ) (i now : ℕ) {x : ℕ} → x ≡ numAt b (place i + 15) 8 → ltb now x ≡ liveRow now (rowAt b i)
-live-read b i now e = rw e (ap (λ l. ltb now (num l % 2 ^ (8 * 8))) (sym (part-part 15 8 (place i) recordSize b (omega arith))))
+pub live-read : (b : List ℕ) (i now : ℕ) {r x : Bool} → r ≡ live now (recordAt b i) → r ≡ x → liveRow now (rowAt b i) ≡ x
+live-read b i now e q = sym (live-is now (rowAt b i)) ∙ sym e ∙ q
 
 -- a part put in where it stands changes nothing
 pub stays : (i j n : ℕ) (l : List ℕ) → i ≡ j → i + n ≤ length l → l ≡ splice j (part i n l) l
@@ -83,10 +83,6 @@ module _ (b : List ℕ) (h : soundBytes b ≡ true) where
 -- ---------------------------------------------------------------- a record's bytes
 
 module _ (at : ℕ) (l : List ℕ) (h : at ≤ length l) where
-  pub duid-made : (d : List ℕ) {l1 l2 : List ℕ} → l1 ≡ splice at d l → l2 ≡ splice (at + length d) (replicate (130 - length d) 0) l1 → l2 ≡ splice at (filled 130 d) l
-  unfolding filled
-  duid-made d e f = more (replicate (130 - length d) 0) h (wrote e refl) f refl .is
-
   pub lease-made : (p a x end : ℕ) {l1 l2 l3 l4 : List ℕ} → l1 ≡ splice at (be 8 p) l → l2 ≡ splice (at + 8) (be 1 a) l1 → l3 ≡ splice (at + 9) (be 1 x) l2
       → l4 ≡ splice (at + 10) (be 8 end) l3 → l4 ≡ splice at (be 8 p ++ (be 1 a ++ (be 1 x ++ be 8 end))) l
   lease-made p a x end e1 e2 e3 e4 =

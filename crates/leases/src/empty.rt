@@ -27,7 +27,7 @@ fn put_terms(t: &mut [u8], preferred: u64, valid: u64, own: &[u8])
     cells::put(t, 22, 4, preferred);
     cells::put(t, 26, 4, valid);
     cells::put(t, 30, 1, own.len() as u64);
-    crate::records::put_duid(t, 31, own);
+    cells::put_filled(t, 31, 130, own);
     cells::clear(t, 161, 15);
 }
 

@@ -8,20 +8,12 @@ ghost use Rattle.rules.specs.TableBytes.{tableSize, place, flag, rowAt, tableBy
 ghost use Rattle.laws.specs.Rows.{kept, dropped};
 ghost use Rattle.laws.specs.Change.{liveRow, tidied};
 
-// Whether record i ends after `time`.
-fn live_at(t: &[u8], i: usize, time: u64) -> bool
-    requires { ⌜ (i < 256) × (tableSize ≤ length (now t)) ⌝ }
-    ensures { λ r. ⌜ r ≡ liveRow time (rowAt (now (t .entry)) i) ⌝ }
-{
-    time < cells::get(t, 176 + i * 153 + 15, 8)
-}
-
 // Record i moves to place j if it is live; the next place is handed back.
 fn step(t: &mut [u8], i: usize, j: usize, time: u64) -> usize
     requires { ⌜ (j ≤ i) × (i < 256) × (tableSize ≤ length (now t)) ⌝ }
     ensures { λ r. ⌜ (r ≡ j + flag (liveRow time (rowAt (now (t .entry)) i))) × (now (t .exit) ≡ cond (liveRow time (rowAt (now (t .entry)) i)) (splice (place j) (rowAt (now (t .entry)) i) (now (t .entry))) (now (t .entry))) ⌝ }
 {
-    if live_at(t, i, time) {
+    if fields::live_at(t, i, time) {
         if i == j {
             return j + 1;
         }

@@ -4,7 +4,7 @@ ghost use mathlib.Core.Bool.{true};
 ghost use mathlib.Core.List.{_++_};
 ghost use Prim.Native.Nat.{_+_, _-_, _*_, _≤_, _<_};
 ghost use lib.ListN.{length};
-ghost use Rattle.rules.specs.Words.{splice, filled, be};
+ghost use Rattle.rules.specs.Words.{splice, be};
 ghost use Rattle.rules.specs.Identity.{identity};
 ghost use Rattle.rules.specs.TableBytes.{flag, leased, recordBytes, tableBytes, countOf, tableOf, soundBytes};
 ghost use Rattle.rules.specs.Box.{bind};
@@ -25,19 +25,11 @@ pub fn remove_at(t: &mut [u8], k: usize)
     ensures { λ _. ⌜ now (t .exit) ≡ tableBytes (onRecords (without k) (tableOf (now (t .entry)))) ⌝ }
 {
     let n = cells::get(t, 8, 2) as usize;
-    cells::shift(t, 176 + k * 153, 176 + (k + 1) * 153, (n - (k + 1)) * 153);
-    cells::clear(t, 176 + (n - 1) * 153, 153);
-    cells::put(t, 8, 2, (n - 1) as u64);
-}
-
-// The 130 bytes of a DUID: its own, and zeros.
-pub fn put_duid(t: &mut [u8], at: usize, duid: &[u8])
-    requires { ⌜ (length (now duid) ≤ 130) × (at + 130 ≤ length (now t)) ⌝ }
-    ensures { λ _. ⌜ now (t .exit) ≡ splice at (filled 130 (now (duid .entry))) (now (t .entry)) ⌝ }
-{
-    let n = duid.len();
-    cells::copy(t, at, duid);
-    cells::clear(t, at + n, 130 - n);
+    let next = k + 1;
+    let last = n - 1;
+    cells::shift(t, 176 + k * 153, 176 + next * 153, (n - next) * 153);
+    cells::clear(t, 176 + last * 153, 153);
+    cells::put(t, 8, 2, last as u64);
 }
 
 // A delegation and its end: the prefix of length a by its upper 64 bits, and whether its last /64 is excluded.
@@ -68,7 +60,7 @@ fn put_record(
     cells::put(t, at, 1, duid.len() as u64);
     cells::put(t, at + 1, 4, iaid as u64);
     put_lease(t, at + 5, p, a, excluded, end);
-    put_duid(t, at + 23, duid);
+    cells::put_filled(t, at + 23, 130, duid);
 }
 
 // A record is put last.

@@ -7,13 +7,13 @@ ghost use Rattle.rules.specs.Prefix.{prefix, front, zeroAfter, inside};
 ghost use Rattle.prefix.specs.Upper.{upper};
 
 // The upper 64 bits, and the lower.
-fn high(q: [u8; 16]) -> u64
+pub fn high(q: [u8; 16]) -> u64
     ensures { λ r. ⌜ r ≡ num q / 2 ^ 64 ⌝ }
 {
     cells::get(&q, 0, 8)
 }
 
-fn low(q: [u8; 16]) -> u64
+pub fn low(q: [u8; 16]) -> u64
     ensures { λ r. ⌜ r ≡ num q % 2 ^ 64 ⌝ }
 {
     cells::get(&q, 8, 8)

@@ -34,7 +34,7 @@ use Rattle.laws.specs.Refusals.{two}
 use Rattle.laws.specs.Kinds.{answer-unserved, row-one-client, identity-path, identity-true}
 use Rattle.laws.specs.Sound.{Good, good-facts, sound-facts, give-up, touched}
 use Rattle.promises.specs.Readings.{Up, Down, hold, Binds, Served}
-use Rattle.promises.specs.Stays.{Accepted, accepted, asked-iaid, asker-good, fine-records, sound-after}
+use Rattle.laws.specs.Accepted.{Accepted, accepted, sound-after, verdict-said, answer-sendable}
 
 -- ---------------------------------------------------------------- records that stay
 
@@ -197,31 +197,8 @@ module _ {T : Table} {n : Moment} {m : List ℕ} {room : ℕ} (a : Accepted T n 
   abbrev q : Asked
   q = askedBy v
 
-  good : Good s
-  good = good-facts s (sound-facts T (a .sound-table) .settings)
-
-  told-fine : Fine v
-  told-fine = read-fine m (a .formed)
-
-  listed-few : length (q .listed) ≤ 4
-  listed-few = leb-true _ 4 (both (eqb (length (v .ias)) 1) (leb (length (q .listed)) 4) (not-false _ (a .pds)) .1)
-
-  pub verdict-said : GoodVerdict (isRelease (kindOf (v .kind))) (serving T n v .verdict) × Quiet (serving T n v .verdict)
-  unfolding serving
-  verdict-said = said s n q rs good (asker-good a) (a .soon) (fine-records a) (ia-of-fine v told-fine .listed) listed-few (kindOf (v .kind))
-
-  -- the answer has an encoding and fits its room
-  pub answer-sendable : Sendable (answerAfter T n v) 442
-  unfolding answerAfter
-  answer-sendable =
-      let c = row-one-client (s .own) v (a .kind) (a .row) in
-      let few : length (clientOf v) ≤ 130 = leb-true _ 130 (both (leb 3 (length (clientOf v))) (leb (length (clientOf v)) 130) (c .1) .1) in
-      let own : length (s .own) ≤ 130 = leb-true _ 130 (both (leb 3 (length (s .own))) (leb (length (s .own)) 130) (good .own) .1) in
-      answer-sent s v (iaOf v .iaid) (rw (c .0) (omega arith)) (rw (c .0) (few, tt)) own (omega (arith, good .preferred-valid, good .valid-32)) (omega (arith, good .valid-32))
-      (asked-iaid m) told-fine (serving T n v .verdict) (verdict-said .0)
-
   pub answer-reads : read (print (answerAfter T n v)) ≡ answerAfter T n v
-  answer-reads = print-read (answerAfter T n v) (answer-sendable .fine)
+  answer-reads = print-read (answerAfter T n v) (answer-sendable a .fine)
 
   act : Acts s n q rs (kindOf (v .kind)) (serving T n v)
   unfolding serving
@@ -248,7 +225,7 @@ module _ {T : Table} {n : Moment} {m : List ℕ} {room : ℕ} (a : Accepted T n 
   given i x c w d =
       let e = answer-reads in
       let t : first takes (getD (saying T n v) 0 _ .listed) ≡ some (d .listed) = ap (λ u. first takes (iaOf u .listed)) (sym e) ∙ d .taken in
-      let z = offer-taken s (iaOf v .iaid) (serving T n v .verdict) _ refl (verdict-said .1) (d .listed) t in
+      let z = offer-taken s (iaOf v .iaid) (serving T n v .verdict) _ refl (verdict-said a .1) (d .listed) t in
       let l : z .0 ≡ c = ap (λ u. u .lease) (sym (z .3)) ∙ d .lease in
       record {
         rest = z .1;

@@ -22,7 +22,7 @@ use Rattle.rules.specs.declared.Kind.the-variants.{Solicit, Request, Renew, Reb
 use Rattle.laws.specs.Refusals.{two}
 use Rattle.laws.specs.Choose.{Place, choose-none, none-chosen}
 use Rattle.laws.specs.Sound.{good-facts, sound-facts, sound-aligned}
-use Rattle.promises.specs.Stays.{Accepted, accepted, fine-records}
+use Rattle.laws.specs.Accepted.{Accepted, accepted, fine-records}
 use Rattle.promises.specs.Boxes.{answer-reads}
 
 -- a choice that is none

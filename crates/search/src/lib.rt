@@ -57,10 +57,8 @@ pub fn hits(t: &[u8], i: usize, p: u64, a: u64) -> bool
     requires { ⌜ (i < 256) × (39344 ≤ length (now t)) ⌝ }
     ensures { λ r. ⌜ r ≡ hits (upper p a) (recordAt (now (t .entry)) i) ⌝ }
 {
-    let o = 176 + i * 153;
-    let q = cells::get(t, o + 5, 8);
-    let b = cells::get(t, o + 13, 1);
-    prefix::half::overlap(q, b, p, a)
+    let q = fields::area_at(t, i);
+    prefix::half::overlap(q.upper, q.length, p, a)
 }
 
 // The first of n records that overlaps p of length a.
@@ -78,30 +76,15 @@ pub fn first_hit(t: &[u8], n: usize, p: u64, a: u64) -> Place
     Place::Nothing
 }
 
-// How many bytes record i's DUID has.
-fn duid_len(t: &[u8], i: usize) -> usize
-    requires { ⌜ (i < 256) × (39344 ≤ length (now t)) ⌝ }
-    ensures { λ r. ⌜ (r ≡ length (recordAt (now (t .entry)) i .owner .duid)) × (r ≤ 130) ⌝ }
-{
-    let n = cells::get(t, 176 + i * 153, 1);
-    if n < 130 { n as usize } else { 130 }
-}
-
 // Whether record i is a binding of this identity.
 pub fn is_of(t: &[u8], i: usize, duid: &[u8], iaid: u32) -> bool
     requires { ⌜ (i < 256) × (39344 ≤ length (now t)) ⌝ }
     ensures { λ r. ⌜ r ≡ isBinding (identity (now (duid .entry)) iaid) (recordAt (now (t .entry)) i) ⌝ }
 {
-    let o = 176 + i * 153;
-    let x = cells::get(t, o + 1, 4);
-    if x != iaid as u64 {
+    if fields::iaid_at(t, i) != iaid {
         return false;
     }
-    let n = duid_len(t, i);
-    if n != duid.len() {
-        return false;
-    }
-    cells::same_bytes(t, o + 23, duid)
+    fields::has_duid(t, i, duid)
 }
 
 // The first of n records that is a binding of this identity.
@@ -119,15 +102,6 @@ pub fn find(t: &[u8], n: usize, duid: &[u8], iaid: u32) -> Place
     Place::Nothing
 }
 
-// Whether record i's end is after this time, or never.
-pub fn live_at(t: &[u8], i: usize, time: u64) -> bool
-    requires { ⌜ (i < 256) × (39344 ≤ length (now t)) ⌝ }
-    ensures { λ r. ⌜ r ≡ live time (recordAt (now (t .entry)) i) ⌝ }
-{
-    let o = 176 + i * 153;
-    time < cells::get(t, o + 15, 8)
-}
-
 // How many of n records are live at this time.
 pub fn count_live(t: &[u8], n: usize, time: u64) -> usize
     requires { ⌜ (n ≤ 256) × (39344 ≤ length (now t)) ⌝ }
@@ -136,7 +110,7 @@ pub fn count_live(t: &[u8], n: usize, time: u64) -> usize
     let mut k: usize = 0;
     let mut i: usize = 0;
     while i < n {
-        k += live_at(t, i, time) as usize;
+        k += fields::live_at(t, i, time) as usize;
         i += 1;
     }
     k

@@ -2,7 +2,7 @@
 --   setup-read, header-read                         the settings as numbers, and what is asked of them
 --   row-agrees, numbers-read                        what they ask of a record
 --   duid-..                                         a DUID behind its length
---   iaids-differ, lengths-differ, bytes-compared    two records' identities, one test after another
+--   lent                                            a record's DUID, as it is lent
 --   sound-size                                      a sound table has one size
 --   other-size, too-many, sound-read                the whole table
 use mathlib.Core.Path.{_≡_, sym, ap, _∙_}
@@ -10,22 +10,21 @@ use mathlib.Core.Bool.{Bool, true, false, not, _&&_}
 use mathlib.Core.List.{List, []}
 use Prim.Native.Nat.{ℕ, _+_, _-_, _≤_, _<_, _^_}
 use native.Mathlib.Omega.{arith}
+use native.Mathlib.Nat.{add-sub-cancel-left}
 use lib.Dec.{eqb, leb, ltb}
 use lib.ListN.{length, take, drop}
-use borrow.Author.Tests.{eq-eqb, ne-eqb, le-leb, lt-leb}
-use Rattle.rules.specs.Words.{all, noTwo, from, part, sameBytes, numAt}
+use borrow.Author.Tests.{le-leb, lt-leb}
+use Rattle.rules.specs.Words.{all, noTwo, from, part, numAt}
 use Rattle.rules.specs.Prefix.{zeroAfter, inside}
 use Rattle.rules.specs.Clock.{goodEnd}
-use Rattle.rules.specs.Identity.{sameIdentity}
 use Rattle.rules.specs.Table.{mayStand}
 use Rattle.rules.specs.TableBytes.{tableSize, place, flag, rowAt, recordAt, settingsOf, countOf, tableOf, soundBytes}
 use Rattle.laws.specs.Tests.{false-true}
-use Rattle.laws.specs.Parts.{length-part}
 use Rattle.laws.specs.Numbers.{Bytes}
 use Rattle.laws.specs.Same.{same-bool}
 use Rattle.laws.specs.Represent.{sound-bytes, table-length}
 use Rattle.laws.specs.Flat.{duidIn, goodNumbers, goodRow, goodHeader, flatSound, flat-sound}
-use Rattle.laws.specs.InPlace.{duidLength, duidAt, owner-length, other-length, same-owner-read}
+use Rattle.laws.specs.InPlace.{owner-part}
 use Rattle.prefix.specs.Upper.{upper}
 use Rattle.sound.specs.Setup.{setupOf, Agrees}
 use Rattle.sound.specs.declared.Setup.{Setup}
@@ -76,32 +75,11 @@ module _ (at n : ℕ) (b : List ℕ) where
   pub duid-between : {r : Bool} → 3 ≤ n → n ≤ 130 → r ≡ all (eqb 0) (part (at + n) (130 - n) b) → r ≡ duidIn at n b
   duid-between h g e = rw (le-leb 3 n h, le-leb n 130 g) e
 
--- ---------------------------------------------------------------- two identities
-
--- a part of the table, as it is lent
-pub lent : (at n : ℕ) (t : List ℕ) → take (at + n - at) (drop at t) ≡ part at n t
+-- record j's DUID, as it is lent
+pub lent : (t : List ℕ) (j : ℕ) {n : ℕ} → j < 256 → tableSize ≤ length t → n ≡ length (recordAt t j .owner .duid)
+    → take (place j + 23 + n - (place j + 23)) (drop (place j + 23) t) ≡ recordAt t j .owner .duid
 unfolding part
-lent at n t = let k : at + n - at ≡ n = omega arith in rw k
-
-module _ (t : List ℕ) (i j : ℕ) where
-  abbrev sameOwner : Bool
-  sameOwner = sameIdentity (recordAt t i .owner) (recordAt t j .owner)
-
-  module _ (x y : ℕ) (ex : x ≡ numAt t (place i + 1) 4) (ey : y ≡ numAt t (place j + 1) 4) where
-    pub iaids-differ : (x ≡ y → ⊥) → false ≡ sameOwner
-    iaids-differ h = sym (same-owner-read t i j ∙ rw (← ex, ← ey, ne-eqb x y h))
-
-    module _ (m n : ℕ) (em : m ≡ duidLength t i) (en : n ≡ duidLength t j) (hi : i < 256) (hj : j < 256) (room : tableSize ≤ length t) (g : x ≡ y) where
-      pub lengths-differ : (m ≡ n → ⊥) → false ≡ sameOwner
-      lengths-differ h =
-          let p = owner-length t i hi room in
-          let q = owner-length t j hj room in
-          sym (same-owner-read t i j ∙ rw (← ex, ← ey, eq-eqb x y g) (other-length (duidAt t i) (duidAt t j) (λ e. h (em ∙ sym p ∙ e ∙ q ∙ sym en))))
-
-      pub bytes-compared : {d : List ℕ} {r : Bool} → m ≡ n → d ≡ part (place j + 23) n t → r ≡ sameBytes (part (place i + 23) (length d) t) d → r ≡ sameOwner
-      bytes-compared h p e =
-          let l : length (part (place j + 23) n t) ≡ m = length-part (place j + 23) n t (omega arith) ∙ sym h in
-          (rw (p, l) at e) ∙ sym (same-owner-read t i j ∙ rw (← ex, ← ey, ← em, ← en, eq-eqb x y g))
+lent t j {n} h room e = let k : place j + 23 + n - (place j + 23) ≡ n = omega arith in rw (k, e) (sym (owner-part t j h room))
 
 -- ---------------------------------------------------------------- the table
 
@@ -121,3 +99,9 @@ module _ (b : List ℕ) where
         → z ≡ all (eqb 0) (part (place n) (tableSize - place n) b) → l ≡ numAt b 0 8 → h && g && w && z && ltb l (2 ^ 48) ≡ soundBytes b
     unfolding flatSound
     sound-read m h g w z l = rw (h, g, w, z, l) (sym (flat-sound b y s ∙ rw (← e, le-leb n 256 m)))
+
+-- ---------------------------------------------------------------- the box's own DUID
+
+pub own-read : (b : List ℕ) {n : ℕ} → n ≡ numAt b 30 1 → take (31 + n - 31) (drop 31 b) ≡ settingsOf b .own
+unfolding settingsOf part
+own-read b {n} e = rw (add-sub-cancel-left, e)

@@ -1,6 +1,7 @@
 // Whether lent bytes are a sound table. Every function reads only.
 ghost use mathlib.Core.Path.{_≡_};
 ghost use Prim.Native.Nat.{_+_, _-_, _≤_, _<_};
+ghost use mathlib.Core.Bool.{true};
 ghost use mathlib.Core.List.{[]};
 ghost use lib.ListN.{length};
 ghost use Rattle.rules.specs.Words.{all, noTwo, from, numAt};
@@ -8,7 +9,6 @@ ghost use Rattle.rules.specs.Identity.{sameIdentity};
 ghost use Rattle.rules.specs.Table.{mayStand};
 ghost use Rattle.rules.specs.TableBytes.{tableSize, flag, rowAt, recordAt, settingsOf, countOf, soundBytes};
 ghost use Rattle.laws.specs.Flat.{goodNumbers, duidIn, goodRow, goodHeader};
-ghost use Rattle.laws.specs.InPlace.{duidLength};
 ghost use Rattle.sound.specs.Setup.{setupOf, Agrees};
 
 // The numbers of the box's settings: the pool by its upper half and its length P, then S and D. The own DUID stays in the table.
@@ -59,6 +59,15 @@ pub fn setup_of(t: &[u8]) -> Setup
         valid,
         exclusion: x != 0,
     }
+}
+
+// The box's own DUID, as that stretch of the table.
+pub fn own_of(t: &[u8]) -> &[u8]
+    requires { ⌜ soundBytes (now t) ≡ true ⌝ }
+    ensures { λ r. ⌜ now r ≡ settingsOf (now (t .entry)) .own ⌝ }
+{
+    let end = 31 + cells::get(t, 30, 1) as usize;
+    &t[31..end]
 }
 
 // Whether n of the 130 bytes from `at` are a DUID, and zeros follow.
@@ -143,33 +152,17 @@ fn rows_good(t: &[u8], n: usize, s: Setup) -> bool
     true
 }
 
-// How many bytes record i has of its DUID: as many as its length says, and at most the 130 that there are.
-pub fn duid_len(t: &[u8], i: usize) -> usize
-    requires { ⌜ (i < 256) × (tableSize ≤ length (now t)) ⌝ }
-    ensures { λ r. ⌜ r ≡ duidLength (now (t .entry)) i ⌝ }
-{
-    let n = cells::get(t, 176 + i * 153, 1) as usize;
-    if 130 < n { 130 } else { n }
-}
-
 // Whether records i and j have the same identity.
 pub fn same_identity(t: &[u8], i: usize, j: usize) -> bool
     requires { ⌜ (i < 256) × (j < 256) × (tableSize ≤ length (now t)) ⌝ }
     ensures { λ r. ⌜ r ≡ sameIdentity (recordAt (now (t .entry)) i .owner) (recordAt (now (t .entry)) j .owner) ⌝ }
 {
-    let o = 176 + i * 153;
-    let u = 176 + j * 153;
-    if cells::get(t, o + 1, 4) != cells::get(t, u + 1, 4) {
+    if fields::iaid_at(t, i) != fields::iaid_at(t, j) {
         return false;
     }
-    let m = duid_len(t, i);
-    let n = duid_len(t, j);
-    if m != n {
-        return false;
-    }
-    let d = u + 23;
-    let e = d + n;
-    cells::same_bytes(t, o + 23, &t[d..e])
+    let d = 176 + j * 153 + 23;
+    let e = d + fields::duid_len(t, j);
+    fields::has_duid(t, i, &t[d..e])
 }
 
 // Whether records i and j may stand in one table.
@@ -177,13 +170,9 @@ pub fn may_stand(t: &[u8], i: usize, j: usize) -> bool
     requires { ⌜ (i < 256) × (j < 256) × (tableSize ≤ length (now t)) ⌝ }
     ensures { λ r. ⌜ r ≡ mayStand (recordAt (now (t .entry)) i) (recordAt (now (t .entry)) j) ⌝ }
 {
-    let o = 176 + i * 153;
-    let u = 176 + j * 153;
-    let p = cells::get(t, o + 5, 8);
-    let a = cells::get(t, o + 13, 1);
-    let q = cells::get(t, u + 5, 8);
-    let b = cells::get(t, u + 13, 1);
-    !prefix::half::overlap(p, a, q, b) & !same_identity(t, i, j)
+    let p = fields::area_at(t, i);
+    let q = fields::area_at(t, j);
+    !prefix::half::overlap(p.upper, p.length, q.upper, q.length) & !same_identity(t, i, j)
 }
 
 // Whether record i may stand with every later one of n.

@@ -16,10 +16,8 @@ fn put_duid(t: &mut [u8], at: usize, d: &[u8])
     requires { ⌜ (at + 131 ≤ length (now t)) × (length (now d) ≤ 130) ⌝ }
     ensures { λ _. ⌜ now (t .exit) ≡ splice at (duidBytes (now (d .entry))) (now (t .entry)) ⌝ }
 {
-    let n = d.len();
-    cells::put(t, at, 1, n as u64);
-    cells::copy(t, at + 1, d);
-    cells::clear(t, at + 1 + n, 130 - n);
+    cells::put(t, at, 1, d.len() as u64);
+    cells::put_filled(t, at + 1, 130, d);
 }
 
 // The four times of a start.

@@ -1,9 +1,9 @@
 -- By whether the record is live, and whether it stands at its place.
-use mathlib.Core.Path.{_∙_, ap, refl, sym}
+use mathlib.Core.Path.{ap, refl, sym}
 use native.Mathlib.Nat.{add-zero}
 use borrow.Author.Needs.{needs}
 use Rattle.rules.specs.TableBytes.{place}
-use Rattle.leases.proofs.Laws.{stays}
+use Rattle.leases.proofs.Laws.{live-read, stays}
 use Rattle.leases.proofs.ended.step.Statement.{statement}
 use Rattle.leases.proofs.ended.step.Tie as tie
 
@@ -17,7 +17,7 @@ same-length : tie.Need-same-length
 same-length c = search needs
 
 returns : tie.Need-returns
-returns c = rw (sym (c .before .before .live-at .ensures) ∙ c .before .if1 .taken) (refl, stays _ _ _ _ (ap place (c .if2 .taken)) (search needs))
+returns c = rw (live-read _ _ _ (c .before .before .live-at .ensures) (c .before .if1 .taken)) (refl, stays _ _ _ _ (ap place (c .if2 .taken)) (search needs))
 
 mul-shift : tie.Need-mul-shift
 mul-shift c = search needs
@@ -41,13 +41,13 @@ same-length-2 : tie.Need-same-length-2
 same-length-2 c = search needs
 
 returns-2 : tie.Need-returns-2
-returns-2 c = rw (sym (c .before .before .before .before .before .before .live-at .ensures) ∙ c .before .before .before .before .before .if1 .taken) (refl, c .before .before .shift .ensures)
+returns-2 c = rw (live-read _ _ _ (c .before .before .before .before .before .before .live-at .ensures) (c .before .before .before .before .before .if1 .taken)) (refl, c .before .before .shift .ensures)
 
 same-length-3 : tie.Need-same-length-3
 same-length-3 c = search needs
 
 returns-3 : tie.Need-returns-3
-returns-3 c = rw (sym (c .before .live-at .ensures) ∙ c .if1 .left) (sym (add-zero _), refl)
+returns-3 c = rw (live-read _ _ _ (c .before .live-at .ensures) (c .if1 .left)) (sym (add-zero _), refl)
 
 pub step-spec : {M : Type 1} → statement M
 step-spec =

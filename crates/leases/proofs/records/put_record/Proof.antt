@@ -19,17 +19,17 @@ add-put-lease c = search needs
 put-lease-requires : tie.Need-put-lease-requires
 put-lease-requires c κs = search needs
 
-add-put-duid : tie.Need-add-put-duid
-add-put-duid c = search needs
+add-put-filled : tie.Need-add-put-filled
+add-put-filled c = search needs
 
-put-duid-requires : tie.Need-put-duid-requires
-put-duid-requires c κs = search needs
+put-filled-requires : tie.Need-put-filled-requires
+put-filled-requires c κs = search needs
 
 same-length : tie.Need-same-length
 same-length c = search needs
 
 returns : tie.Need-returns
-returns c = record-made _ _ (search needs) _ _ (c .before .before .before .before .before .before .before .before .before .before .before .before .before .before .before .before .before .before .args .p) (c .before .before .before .before .before .before .before .before .before .before .before .before .before .before .before .before .before .before .args .a) (c .before .before .before .before .before .before .before .before .before .before .before .before .before .before .before .before .before .before .args .end) (c .before .before .before .before .before .before .before .before .before .before .before .before .before .before .before .before .before .before .args .excluded) (c .before .before .before .before .before .before .before .before .before .before .before .before .before .before .put .ensures) (c .before .before .before .before .before .before .before .before .before .before .put2 .ensures) (c .before .before .before .before .before .before .put-lease .ensures) (c .before .before .put-duid .ensures)
+returns c = record-made _ _ (search needs) _ _ (c .before .before .before .before .before .before .before .before .before .before .before .before .before .before .before .before .before .before .args .p) (c .before .before .before .before .before .before .before .before .before .before .before .before .before .before .before .before .before .before .args .a) (c .before .before .before .before .before .before .before .before .before .before .before .before .before .before .before .before .before .before .args .end) (c .before .before .before .before .before .before .before .before .before .before .before .before .before .before .before .before .before .before .args .excluded) (c .before .before .before .before .before .before .before .before .before .before .before .before .before .before .put .ensures) (c .before .before .before .before .before .before .before .before .before .before .put2 .ensures) (c .before .before .before .before .before .before .put-lease .ensures) (c .before .before .put-filled .ensures)
 
 pub put-record-spec : {M : Type 1} → statement M
 put-record-spec =
@@ -40,7 +40,7 @@ put-record-spec =
     put-requires-2
     add-put-lease
     put-lease-requires
-    add-put-duid
-    put-duid-requires
+    add-put-filled
+    put-filled-requires
     same-length
     returns)

@@ -13,23 +13,23 @@ lent c = held (now (c .args .t)) (c .pre .0)
 get-requires : tie.Need-get-requires
 get-requires c κs = let g = lent (c .before .before) in search needs
 
+add-next : tie.Need-add-next
+add-next c = search needs
+
+sub-last : tie.Need-sub-last
+sub-last c = search needs
+
 mul-shift : tie.Need-mul-shift
 mul-shift c = search needs
 
 add-shift : tie.Need-add-shift
 add-shift c = search needs
 
-add-shift-2 : tie.Need-add-shift-2
-add-shift-2 c = search needs
-
 mul-shift-2 : tie.Need-mul-shift-2
 mul-shift-2 c = search needs
 
-add-shift-3 : tie.Need-add-shift-3
-add-shift-3 c = search needs
-
-add-shift-4 : tie.Need-add-shift-4
-add-shift-4 c = search needs
+add-shift-2 : tie.Need-add-shift-2
+add-shift-2 c = search needs
 
 sub-shift : tie.Need-sub-shift
 sub-shift c = search needs
@@ -40,9 +40,6 @@ mul-shift-3 c = search needs
 shift-requires : tie.Need-shift-requires
 shift-requires c κs = let g = lent (c .before .before .before .before) in search needs
 
-sub-clear : tie.Need-sub-clear
-sub-clear c = search needs
-
 mul-clear : tie.Need-mul-clear
 mul-clear c = search needs
 
@@ -51,9 +48,6 @@ add-clear c = search needs
 
 clear-requires : tie.Need-clear-requires
 clear-requires c κs = let g = lent (c .before .before .before .before .before .before .before .before) in search needs
-
-sub-put : tie.Need-sub-put
-sub-put c = search needs
 
 put-requires : tie.Need-put-requires
 put-requires c κs = let g = lent (c .before .before .before .before .before .before .before .before .before .before .before .before) in search needs
@@ -69,20 +63,18 @@ remove-at-spec =
     tie.close
     (tie.spec
     get-requires
+    add-next
+    sub-last
     mul-shift
     add-shift
-    add-shift-2
     mul-shift-2
-    add-shift-3
-    add-shift-4
+    add-shift-2
     sub-shift
     mul-shift-3
     shift-requires
-    sub-clear
     mul-clear
     add-clear
     clear-requires
-    sub-put
     put-requires
     same-length
     returns)

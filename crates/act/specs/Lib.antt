@@ -1,0 +1,3 @@
+pub mod Head
+pub mod Answer
+pub mod Serve

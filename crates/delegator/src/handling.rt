@@ -1,0 +1,14 @@
+// A message handled: judge, then act.
+ghost use mathlib.Core.Path.{_≡_};
+ghost use Rattle.rules.specs.Lent.{ended, boxHandled};
+
+pub fn handle(t: &mut [u8], time: u64, msg: &[u8], out: &mut [u8]) -> u64
+    ensures { λ r. ⌜ ended r (now (t .exit)) (now (out .exit)) ≡ boxHandled (now (t .entry)) time (now (msg .entry)) (now (out .entry)) ⌝ }
+{
+    let n = judge::judge(t, time, msg, out.len());
+    if n != 0 {
+        return n * 65536;
+    }
+    leases::ended::tidy(t, time);
+    act::serve::serve(t, time, msg, out)
+}

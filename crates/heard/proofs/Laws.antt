@@ -1,0 +1,204 @@
+-- Laws that only these proofs need.
+use mathlib.Core.Path.{_≡_, refl, sym, ap, _∙_}
+use mathlib.Core.Bool.{Bool, true, false, cond, not, _&&_, and-true, and-assoc}
+use mathlib.Core.List.{List, [], _∷_, _++_, map, append-assoc, append-nil}
+use Prim.Native.Nat.{ℕ, zero, suc, _+_, _-_, _≤_, _<_}
+use native.Mathlib.Omega.{arith}
+use native.Mathlib.Nat.{add-sub-cancel-left}
+use native.Mathlib.Numerals.{add-one}
+use borrow.Author.Tests.{eq-eqb, ne-eqb, le-leb, lt-leb, ltb-true, ltb-false}
+use lib.Dec.{eqb, leb, ltb}
+use lib.ListN.{length, getD, take, drop, set, length-set, length-map, List·getD-eq-default, List·getD-map, drop-of-length-le}
+use lib.Seq.{take-suc-set, drop-cons, take-length}
+use Rattle.rules.specs.Words.{all, part, sameBytes, numAt}
+use Rattle.rules.specs.Options.{areaOf, options, count, nth}
+use Rattle.rules.specs.Message.{Listed, listedAt, iaAt, top, read, wellFormed}
+use Rattle.rules.specs.Identity.{Duid, kindOf, identityRows, rowOf, stands, rowHolds}
+use Rattle.rules.specs.Box.{iaOf as askedIa, wrongPds}
+use Rattle.rules.specs.declared.Kind.the-variants.{Release}
+use Rattle.rules.specs.declared.Found.{Found}
+use Rattle.rules.specs.declared.Found.the-variants.{At, Nothing}
+use Rattle.laws.specs.Walk.{options-end}
+use Rattle.laws.specs.Parts.{length-part}
+use Rattle.laws.specs.Same.{other-length}
+use Rattle.laws.specs.Formed.{listed-place, ia-place}
+use Rattle.laws.specs.One.{map-append}
+use Rattle.values.specs.Values.{listedOf, firstListed, iaOf}
+use Rattle.values.specs.declared.IaPrefix.{IaPrefix}
+use Rattle.values.specs.declared.Pd.{Pd}
+use Rattle.heard.specs.Heard.{onlyOf, bare, bareIa}
+use Rattle.heard.specs.Ids.{idWanted, idGood, idsOf, idsHold}
+use Rattle.heard.specs.Facts.{only-at, only-nothing, PdAt, pd-stands}
+
+-- ---------------------------------------------------------------- the one option of a code
+
+module _ (w : ℕ) (m : List ℕ) where
+  pub only-other : {k : ℕ} → k ≡ count w (areaOf m 4 (length m)) → (k ≡ 1 → ⊥) → Nothing ≡ onlyOf w m
+  unfolding onlyOf top
+  only-other q h = rw (← q, ne-eqb _ _ h)
+
+  pub only-found : {k : ℕ} {f : Found} → k ≡ count w (areaOf m 4 (length m)) → k ≡ 1 → f ≡ nth w 0 (areaOf m 4 (length m)) → f ≡ onlyOf w m
+  unfolding onlyOf top
+  only-found q h g = rw (← q, eq-eqb _ _ h, ← g)
+
+-- ---------------------------------------------------------------- the identity rows
+
+abbrev pair : Bool × Bool → List Bool
+pair r = r .0 ∷ r .1 ∷ []
+
+unset : (i : ℕ) → getD [] i false ≡ getD (pair (false, false)) i false
+unset zero = refl
+unset (suc zero) = refl
+unset (suc (suc i)) = refl
+
+row-at : (l : List (Bool × Bool)) (k i : ℕ) → getD (getD (map pair l) k []) i false ≡ getD (pair (getD l k (false, false))) i false
+row-at [] k i = unset i
+row-at (r ∷ l) zero i = refl
+row-at (r ∷ l) (suc k) i = row-at l k i
+
+in-pair : (r : Bool × Bool) (i : ℕ) → i < 2 → getD (pair r) i false ≡ cond (eqb i 0) (r .0) (r .1)
+in-pair r zero h = refl
+in-pair r (suc zero) h = refl
+in-pair r (suc (suc i)) h = absurd (omega arith)
+
+-- the table of the code
+pub rows-wanted : (k i : ℕ) → i < 2 → getD (getD (map pair identityRows) k []) i false ≡ idWanted k i
+unfolding idWanted
+rows-wanted k i h = row-at identityRows k i ∙ in-pair (rowOf k) i h
+
+pub past-wanted : (k i : ℕ) → 8 < k → i < 2 → false ≡ idWanted k i
+unfolding identityRows
+past-wanted k i h l = ap (λ r. getD r i false) (sym (List·getD-eq-default (map pair identityRows) [] {n = k} (omega arith))) ∙ rows-wanted k i l
+
+-- ---------------------------------------------------------------- the identity options
+
+-- the DUID of an option, and the box's own
+module _ (m own : List ℕ) (s n : ℕ) (w : s + n ≤ length m) where
+  pub own-other : (n ≡ length own → ⊥) → false ≡ sameBytes own (part s n m)
+  own-other h = sym (other-length own (part s n m) (λ q. h (sym (q ∙ length-part s n m w))))
+
+  pub own-same : {r : Bool} → n ≡ length own → r ≡ sameBytes (part 0 (length (take (s + n - s) (drop s m))) own) (take (s + n - s) (drop s m)) → r ≡ sameBytes own (part s n m)
+  unfolding part
+  own-same q e = e ∙ rw (add-sub-cancel-left, length-part s n m w, q, take-length)
+
+  pub client-good : {i : ℕ} → i ≡ 0 → leb 3 n && leb n 130 ≡ idGood own i (part s n m)
+  unfolding idGood
+  client-good q = rw (eq-eqb _ _ q, length-part s n m w)
+
+  pub server-good : {i : ℕ} {r : Bool} → (i ≡ 0 → ⊥) → r ≡ sameBytes own (part s n m) → r ≡ idGood own i (part s n m)
+  unfolding idGood
+  server-good q e = rw (ne-eqb _ _ q) e
+
+none-stands : (f : Duid → Bool) (l : List Duid) → stands false l && all f l ≡ eqb (length l) 0
+none-stands f [] = refl
+none-stands f (d ∷ l) = rw (ne-eqb (length (d ∷ l)) 0 (λ q. omega arith))
+
+module _ (own : Duid) (k i : ℕ) (m : List ℕ) where
+  pub hold-none : {r : Bool} {c : ℕ} → r ≡ idWanted k i → r ≡ false → c ≡ count (i + 1) (areaOf m 4 (length m)) → eqb c 0 ≡ idsHold own k i m
+  unfolding idsHold top
+  hold-none q e h = rw (← q, e, none-stands (idGood own i) (idsOf i m), length-map, h)
+
+  pub hold-one : {r b : Bool} {p s n : ℕ} → r ≡ idWanted k i → r ≡ true → onlyOf (i + 1) m ≡ At p s n → b ≡ idGood own i (part s n m) → b ≡ idsHold own k i m
+  unfolding idsHold
+  hold-one q e h g = rw (← q, e, only-at (i + 1) m h, and-true, ← g)
+
+  pub hold-other : {r : Bool} → r ≡ idWanted k i → r ≡ true → onlyOf (i + 1) m ≡ Nothing → false ≡ idsHold own k i m
+  unfolding idsHold
+  hold-other q e h = rw (← q, e, length-map, ne-eqb (count (i + 1) (top m)) 1 (only-nothing (i + 1) m h))
+
+-- both rows together
+pub rows-hold : (own : Duid) (m : List ℕ) {k : ℕ} {a b : Bool} → k ≡ getD m 0 0 → a ≡ idsHold own k 0 m → b ≡ idsHold own k 1 m → a && b ≡ rowHolds own (read m)
+unfolding idsHold idWanted idGood rowHolds read
+rows-hold own m {k} q e h =
+    let l = idsOf 1 m in
+    rw (e, h, ← q) (sym (and-assoc (idsHold own k 0 m) (stands (rowOf k .1) l) (all (sameBytes own) l)))
+
+-- ---------------------------------------------------------------- the IA_PD
+
+-- what it lists, as the options of the area inside
+module _ (m : List ℕ) (s n : ℕ) where
+  pub listed-count : {k : ℕ} → k ≡ count 26 (areaOf m (s + 12) (s + n)) → k ≡ length (iaAt m (At 0 s n) .listed)
+  unfolding iaAt
+  listed-count q = q ∙ sym (length-map (options 26 (areaOf m (s + 12) (s + n))) (listedAt m))
+
+  pub listed-none : n < 12 → 0 ≡ length (iaAt m (At 0 s n) .listed)
+  listed-none h = listed-count (sym (ap length (options-end 26 m (s + 12) (s + n) (rw (le-leb (s + n) (s + 12) (omega arith))))))
+
+more-than : (k n : ℕ) → ltb n k ≡ not (leb k n)
+more-than k n = by (ltb n k) refl
+  where
+    by : (b : Bool) → ltb n k ≡ b → b ≡ not (leb k n)
+    by true e = rw (lt-leb k n (ltb-true n k e))
+    by false e = rw (le-leb k n (ltb-false n k e))
+
+pub few-pds : (m : List ℕ) {p s n k : ℕ} → onlyOf 25 m ≡ At p s n → k ≡ length (iaAt m (At 0 s n) .listed) → ltb 4 k ≡ wrongPds (read m)
+unfolding read
+few-pds m {p} {s} {n} {k} h q = rw (only-at 25 m h, ia-place m p s n, ← q) (more-than k 4)
+
+pub other-pds : (m : List ℕ) → onlyOf 25 m ≡ Nothing → true ≡ wrongPds (read m)
+unfolding read
+other-pds m h = rw (length-map, ne-eqb (count 25 (top m)) 1 (only-nothing 25 m h))
+
+-- ---------------------------------------------------------------- its prefixes
+
+-- an IA Prefix that was found, and none
+module _ (m : List ℕ) (k at e : ℕ) (x : IaPrefix) where
+  pub prefix-found : {p s n : ℕ} → nth 26 k (areaOf m at e) ≡ At p s n → listedOf x (listedAt m (At 0 s n) .statuses) ≡ listedAt m (At 0 s n)
+      → listedOf x [] ≡ bare (listedAt m (nth 26 k (areaOf m at e)))
+  unfolding listedOf
+  prefix-found {p} {s} {n} h q = rw (h, listed-place m p s n) (ap bare q)
+
+  pub prefix-none : {f : Found} → f ≡ nth 26 k (areaOf m at e) → f ≡ Nothing → listedOf x [] ≡ listedAt [] Nothing → listedOf x [] ≡ bare (listedAt m (nth 26 k (areaOf m at e)))
+  unfolding listedAt
+  prefix-none h f q = rw (← h, f) q
+
+-- prefixes in an array: those that stand there, and those still to come, are all of them
+module _ (xs : List Listed) where
+  pub record Filled (ps : List IaPrefix) (k : ℕ) : Type 0 where
+    pub size : length ps ≡ 5
+    pub few : k ≤ length xs
+    pub whole : firstListed k ps ++ map bare (drop k xs) ≡ map bare xs
+
+  fill-turn : (ps : List IaPrefix) (k : ℕ) (x : IaPrefix) (d : Listed) → k < length xs → k < 5 → listedOf x [] ≡ bare (getD xs k d) → Filled ps k → Filled (set ps k x) (k + 1)
+  fill-turn ps k x d h l q f =
+      let o : k < length ps = omega arith in
+      let t : firstListed k ps ++ (listedOf x [] ∷ map bare (drop (suc k) xs)) ≡ map bare xs = rw q (rw (drop-cons xs k d h) at (f .whole)) in
+      record { size = length-set ps k x ∙ f .size; few = omega arith; whole = rw (add-one, take-suc-set ps k x o, map-append, append-assoc) t }
+
+  pub fill-end : (ps : List IaPrefix) (k n : ℕ) → n ≤ k → n ≡ length xs → Filled ps k → firstListed n ps ≡ map bare xs
+  fill-end ps k n h q f =
+      let e : k ≡ n = omega arith in
+      let l : length xs ≤ n = omega arith in
+      sym (append-nil (firstListed n ps)) ∙ (rw (e, drop-of-length-le xs l) at (f .whole))
+
+pub prefix-turn : (m : List ℕ) (s n : ℕ) (ps : List IaPrefix) (k : ℕ) (x : IaPrefix) → k < length (iaAt m (At 0 s n) .listed) → k < 5
+    → listedOf x [] ≡ bare (listedAt m (nth 26 k (areaOf m (s + 12) (s + n)))) → Filled (iaAt m (At 0 s n) .listed) ps k → Filled (iaAt m (At 0 s n) .listed) (set ps k x) (k + 1)
+unfolding iaAt
+prefix-turn m s n ps k x h l q =
+    let fs = options 26 (areaOf m (s + 12) (s + n)) in
+    fill-turn (map (listedAt m) fs) ps k x (listedAt m Nothing) h l (rw (List·getD-map (listedAt m) fs k Nothing) q)
+
+-- the whole IA_PD
+pub pd-read : (m : List ℕ) (s n : ℕ) (d : Pd) → d .iaid ≡ numAt m s 4 → d .t1 ≡ numAt m (s + 4) 4 → d .t2 ≡ numAt m (s + 8) 4 → d .says ≡ false
+    → firstListed (d .count) (d .prefixes) ≡ map bare (iaAt m (At 0 s n) .listed) → iaOf d ≡ bareIa (iaAt m (At 0 s n))
+unfolding iaOf bareIa iaAt
+pd-read m s n d i a b f l = rw (i, a, b, f, l)
+
+-- ---------------------------------------------------------------- the kind
+
+module _ (m : List ℕ) {k : ℕ} (e : k ≡ getD m 0 0) where
+  pub kind-is : kindOf k ≡ kindOf (read m .kind)
+  unfolding read
+  kind-is = ap kindOf e
+
+  pub kind-last : (k ≡ 1 → ⊥) → (k ≡ 3 → ⊥) → (k ≡ 5 → ⊥) → (k ≡ 6 → ⊥) → Release ≡ kindOf (read m .kind)
+  kind-last a b c d = rw (ne-eqb k 1 a, ne-eqb k 3 b, ne-eqb k 5 c, ne-eqb k 6 d) at kind-is
+
+-- ---------------------------------------------------------------- the IA_PD that is asked about
+
+pub pd-asked : (m : List ℕ) {s n : ℕ} (d : Pd) → PdAt m s n → (iaOf d ≡ bareIa (iaAt m (At 0 s n))) × (d .count ≡ length (iaAt m (At 0 s n) .listed))
+    → (iaOf d ≡ bareIa (askedIa (read m))) × (d .count ≤ 4)
+pd-asked m d g h = (h .0 ∙ ap bareIa (sym (g .is)), omega (arith, h .1, g .few))
+
+pub pd-there : (m : List ℕ) → wellFormed m ≡ true → wrongPds (read m) ≡ false → onlyOf 25 m ≡ Nothing → ⊥
+pd-there m g r h = let p = pd-stands m g r in let z : At (p .place) (p .start) (p .len) ≡ Nothing = sym (p .is) ∙ h in let y : _≡_ {A = ℕ} 0 1 = cc in omega arith

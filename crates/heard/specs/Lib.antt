@@ -1,0 +1,4 @@
+pub mod Heard
+pub mod Ids
+pub mod Facts
+pub mod Bare

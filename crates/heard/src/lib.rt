@@ -1,0 +1,232 @@
+// What both sides ask of a message that they got.
+ghost use mathlib.Core.Path.{_≡_};
+ghost use mathlib.Core.Bool.{true, false};
+ghost use Prim.Native.Nat.{_+_, _≤_, _<_};
+ghost use mathlib.Core.List.{[], map};
+ghost use lib.ListN.{length};
+ghost use Rattle.rules.specs.Words.{part, sameBytes};
+ghost use Rattle.rules.specs.Options.{areaOf, nth};
+ghost use Rattle.rules.specs.Message.{iaAt, listedAt, read, wellFormed};
+ghost use Rattle.rules.specs.Identity.{kindOf, rowHolds};
+ghost use Rattle.rules.specs.Box.{iaOf as askedIa, wrongPds};
+ghost use Rattle.rules.specs.declared.Found.the-variants.{At, Nothing};
+ghost use Rattle.laws.specs.Formed.{PdFormed};
+ghost use Rattle.values.specs.Values.{listedOf, firstListed, iaOf};
+ghost use Rattle.heard.specs.Heard.{onlyOf, bare, bareIa};
+ghost use Rattle.heard.specs.Ids.{idWanted, idGood, idsHold};
+use rules::Found;
+use rules::Kind;
+use values::IaPrefix;
+use values::Pd;
+use wire::content::prefix_at;
+use wire::content::u32_at;
+use wire::find::count_of;
+use wire::find::find;
+use wire::walk::u8_at;
+
+// The identity rows, by message type: must one Client ID stand, must one Server ID.
+const ROWS: [[bool; 2]; 9] = [
+    [false, false],
+    [true, false], // Solicit
+    [false, false],
+    [true, true], // Request
+    [false, false],
+    [true, true], // Renew
+    [true, false], // Rebind
+    [false, false],
+    [true, true], // Release
+];
+
+// The one option of a code in the message's own area.
+pub fn only(msg: &[u8], code: usize) -> Found
+    ensures { λ r. ⌜ r ≡ onlyOf code (now (msg .entry)) ⌝ }
+{
+    if count_of(msg, 4, msg.len(), code) != 1 {
+        return Found::Nothing;
+    }
+    find(msg, 4, msg.len(), code, 0)
+}
+
+// How many IA Prefixes the IA_PD with that content lists.
+pub fn listed_in(msg: &[u8], start: usize, len: usize) -> usize
+    requires { ⌜ start + len ≤ length (now msg) ⌝ }
+    ensures { λ r. ⌜ r ≡ length (iaAt (now (msg .entry)) (At 0 start len) .listed) ⌝ }
+{
+    if len < 12 {
+        return 0;
+    }
+    count_of(msg, start + 12, start + len, 26)
+}
+
+// What stands in the places past the last IA Prefix.
+fn no_prefix() -> IaPrefix
+    ensures { λ r. ⌜ listedOf r [] ≡ listedAt [] Nothing ⌝ }
+{
+    IaPrefix {
+        preferred: 0,
+        valid: 0,
+        length: 0,
+        bits: [0u8; 16],
+        cut: 0,
+        out: [0u8; 16],
+    }
+}
+
+// The k-th IA Prefix of an IA_PD.
+fn prefix_in(msg: &[u8], start: usize, len: usize, k: usize) -> IaPrefix
+    requires { ⌜ PdFormed (now msg) start len ⌝ }
+    ensures { λ r. ⌜ listedOf r [] ≡ bare (listedAt (now (msg .entry)) (nth 26 k (areaOf (now (msg .entry)) (start + 12) (start + len)))) ⌝ }
+{
+    match find(msg, start + 12, start + len, 26, k) {
+        Found::At {
+            place: _,
+            start,
+            len,
+        } => prefix_at(msg, start, len),
+        Found::Nothing => no_prefix(),
+    }
+}
+
+// The IA Prefixes of an IA_PD, of which there are n.
+fn prefixes_in(msg: &[u8], start: usize, len: usize, n: usize) -> [IaPrefix; 5]
+    requires { ⌜ PdFormed (now msg) start len × (n ≤ 5) × (n ≡ length (iaAt (now msg) (At 0 start len) .listed)) ⌝ }
+    ensures { λ r. ⌜ firstListed n r ≡ map bare (iaAt (now (msg .entry)) (At 0 start len) .listed) ⌝ }
+{
+    let none = no_prefix();
+    let mut ps = [none; 5];
+    let mut k = 0;
+    while k < n {
+        ps[k] = prefix_in(msg, start, len, k);
+        k += 1;
+    }
+    ps
+}
+
+// The IA_PD with that content: its numbers and its prefixes, without Status Codes.
+pub fn pd_at(msg: &[u8], start: usize, len: usize) -> Pd
+    requires { ⌜ PdFormed (now msg) start len × (length (iaAt (now msg) (At 0 start len) .listed) ≤ 5) ⌝ }
+    ensures { λ r. ⌜ (iaOf r ≡ bareIa (iaAt (now (msg .entry)) (At 0 start len))) × (r .count ≡ length (iaAt (now (msg .entry)) (At 0 start len) .listed)) ⌝ }
+{
+    let count = listed_in(msg, start, len);
+    let prefixes = prefixes_in(msg, start, len, count);
+    let iaid = u32_at(msg, start);
+    let t1 = u32_at(msg, start + 4);
+    let t2 = u32_at(msg, start + 8);
+    Pd {
+        iaid,
+        t1,
+        t2,
+        count,
+        prefixes,
+        says: false,
+        status: 0,
+    }
+}
+
+// Whether a message of that type must have one of an identity option: of the Client ID (0), of the Server ID (1).
+fn id_wanted(kind: usize, id: usize) -> bool
+    requires { ⌜ id < 2 ⌝ }
+    ensures { λ r. ⌜ r ≡ idWanted kind id ⌝ }
+{
+    if 8 < kind {
+        return false;
+    }
+    ROWS[kind][id]
+}
+
+// Whether the bytes of an option are the box's own DUID.
+fn is_own(msg: &[u8], own: &[u8], start: usize, len: usize) -> bool
+    requires { ⌜ start + len ≤ length (now msg) ⌝ }
+    ensures { λ r. ⌜ r ≡ sameBytes (now (own .entry)) (part start len (now (msg .entry))) ⌝ }
+{
+    if len != own.len() {
+        return false;
+    }
+    cells::same_bytes(own, 0, &msg[start..start + len])
+}
+
+// Whether an identity option is good: a Client ID has 3 to 130 bytes, a Server ID is the box's own.
+fn id_good(msg: &[u8], own: &[u8], id: usize, start: usize, len: usize) -> bool
+    requires { ⌜ start + len ≤ length (now msg) ⌝ }
+    ensures { λ r. ⌜ r ≡ idGood (now (own .entry)) id (part start len (now (msg .entry))) ⌝ }
+{
+    if id == 0 {
+        return (3 <= len) & (len <= 130);
+    }
+    is_own(msg, own, start, len)
+}
+
+// Whether as many of an identity option stand as its row wants, and the one that stands is good.
+fn ids_hold(msg: &[u8], own: &[u8], kind: usize, id: usize) -> bool
+    requires { ⌜ id < 2 ⌝ }
+    ensures { λ r. ⌜ r ≡ idsHold (now (own .entry)) kind id (now (msg .entry)) ⌝ }
+{
+    if !id_wanted(kind, id) {
+        return count_of(msg, 4, msg.len(), id + 1) == 0;
+    }
+    match only(msg, id + 1) {
+        Found::At {
+            place: _,
+            start,
+            len,
+        } => id_good(msg, own, id, start, len),
+        Found::Nothing => false,
+    }
+}
+
+// Whether the identity row of the message's type holds, for a box whose own DUID that is.
+pub fn row_holds(msg: &[u8], own: &[u8]) -> bool
+    ensures { λ r. ⌜ r ≡ rowHolds (now (own .entry)) (read (now (msg .entry))) ⌝ }
+{
+    let kind = u8_at(msg, 0);
+    ids_hold(msg, own, kind, 0) & ids_hold(msg, own, kind, 1)
+}
+
+// Whether there isn't exactly one IA_PD, or it lists more than four IA Prefixes.
+pub fn wrong_pds(msg: &[u8]) -> bool
+    ensures { λ r. ⌜ r ≡ wrongPds (read (now (msg .entry))) ⌝ }
+{
+    match only(msg, 25) {
+        Found::At {
+            place: _,
+            start,
+            len,
+        } => 4 < listed_in(msg, start, len),
+        Found::Nothing => true,
+    }
+}
+
+// The kind of a message that the box serves.
+pub fn kind_of(msg: &[u8]) -> Kind
+    ensures { λ r. ⌜ r ≡ kindOf (read (now (msg .entry)) .kind) ⌝ }
+{
+    let k = u8_at(msg, 0);
+    if k == 1 {
+        return Kind::Solicit;
+    }
+    if k == 3 {
+        return Kind::Request;
+    }
+    if k == 5 {
+        return Kind::Renew;
+    }
+    if k == 6 {
+        return Kind::Rebind;
+    }
+    Kind::Release
+}
+
+// The IA_PD that a message asks about.
+pub fn asked_pd(msg: &[u8]) -> Pd
+    requires { ⌜ (wellFormed (now msg) ≡ true) × (wrongPds (read (now msg)) ≡ false) ⌝ }
+    ensures { λ r. ⌜ (iaOf r ≡ bareIa (askedIa (read (now (msg .entry))))) × (r .count ≤ 4) ⌝ }
+{
+    match only(msg, 25) {
+        Found::At {
+            place: _,
+            start,
+            len,
+        } => pd_at(msg, start, len),
+        Found::Nothing => pd_at(msg, 0, 0),
+    }
+}

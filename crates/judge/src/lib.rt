@@ -1,0 +1,88 @@
+// The box's judgement of a message. Nothing is written here.
+ghost use mathlib.Core.Path.{_≡_};
+ghost use Prim.Native.Nat.{_<_};
+ghost use mathlib.Core.Bool.{true};
+ghost use Rattle.rules.specs.Message.{read};
+ghost use Rattle.rules.specs.TableBytes.{tableOf, soundBytes};
+ghost use Rattle.rules.specs.Box.{serving, isSilence};
+ghost use Rattle.judge.specs.Judged.{byTable, byForm, byIds, judged};
+ghost use Rattle.judge.specs.Understood.{Understood};
+
+// 9, 1: by the table, and the time.
+pub fn by_table(t: &[u8], time: u64) -> u64
+    ensures { λ r. ⌜ (r ≡ byTable (now (t .entry)) time) × (r < 10) ⌝ }
+{
+    if !sound::sound(t) {
+        return 9;
+    }
+    let last = sound::last_of(t);
+    if (time < last) | (0x1_0000_0000_0000 <= time) {
+        return 1;
+    }
+    0
+}
+
+// 3, 4, 5: by the message's length, type and form.
+fn by_form(msg: &[u8]) -> u64
+    ensures { λ r. ⌜ (r ≡ byForm (now (msg .entry))) × (r < 10) ⌝ }
+{
+    if (msg.len() < 4) | (1232 < msg.len()) {
+        return 3;
+    }
+    let k = wire::walk::u8_at(msg, 0);
+    if !((k == 1) | (k == 3) | (k == 5) | (k == 6) | (k == 8)) {
+        return 4;
+    }
+    if !wire::check::well_formed(msg) {
+        return 5;
+    }
+    0
+}
+
+// 6, 7: by its IDs and IA_PDs.
+fn by_ids(t: &[u8], msg: &[u8]) -> u64
+    requires { ⌜ soundBytes (now t) ≡ true ⌝ }
+    ensures { λ r. ⌜ (r ≡ byIds (now (t .entry)) (now (msg .entry))) × (r < 10) ⌝ }
+{
+    if !heard::row_holds(msg, sound::own_of(t)) {
+        return 6;
+    }
+    if heard::wrong_pds(msg) {
+        return 7;
+    }
+    0
+}
+
+// 8: by what would be said.
+fn passed_over(t: &[u8], time: u64, msg: &[u8]) -> bool
+    requires { ⌜ Understood (now t) (now msg) ⌝ }
+    ensures { λ r. ⌜ r ≡ isSilence (serving (tableOf (now (t .entry))) time (read (now (msg .entry))) .verdict) ⌝ }
+{
+    let q = heard::asked_pd(msg);
+    decide::silent(t, time, heard::kind_of(msg), wire::find::client_id(msg), q)
+}
+
+// The number of the first refusal that applies, or 0.
+pub fn judge(t: &[u8], time: u64, msg: &[u8], room: usize) -> u64
+    ensures { λ r. ⌜ (r ≡ judged (now (t .entry)) time (now (msg .entry)) room) × (r < 10) ⌝ }
+{
+    let a = by_table(t, time);
+    if a != 0 {
+        return a;
+    }
+    if room < 512 {
+        return 2;
+    }
+    let b = by_form(msg);
+    if b != 0 {
+        return b;
+    }
+    let c = by_ids(t, msg);
+    if c != 0 {
+        return c;
+    }
+    if passed_over(t, time, msg) {
+        return 8;
+    }
+    0
+}
