@@ -5,3 +5,4 @@ pub mod Routers
 pub mod Boxes
 pub mod Demand3
 pub mod ExactlyWhen
+pub mod Lent
