@@ -41,4 +41,6 @@ pub mod RouterFields
 pub mod RouterFlat
 pub mod RouterRepresent
 pub mod RouterChange
+pub mod RouterKeeps
+pub mod Scan
 pub mod Accepted

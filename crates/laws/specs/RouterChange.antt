@@ -81,7 +81,7 @@ duid-written t d at h p q =
 -- ---------------------------------------------------------------- what is read of the state
 
 -- the kind by its type
-release-type : (d : Kind) → isRelease d ≡ eqb (typeOf d) 8
+pub release-type : (d : Kind) → isRelease d ≡ eqb (typeOf d) 8
 release-type Solicit = refl
 release-type Request = refl
 release-type Renew = refl
@@ -99,7 +99,7 @@ carries-none Rebind = refl
 carries-none Release = refl
 
 -- the open exchange by its type
-open-type : (b : List ℕ) (o : Option Exchange) → part 346 35 b ≡ exchangeBytes o → isOpen o ≡ true → (some (openOf o) ≡ o) × (numAt b 346 1 ≡ typeOf (openOf o .kind))
+pub open-type : (b : List ℕ) (o : Option Exchange) → part 346 35 b ≡ exchangeBytes o → isOpen o ≡ true → (some (openOf o) ≡ o) × (numAt b 346 1 ≡ typeOf (openOf o .kind))
 open-type b none q h = absurd (false≢true h)
 open-type b (some x) q h = (refl, inner-byte b 346 35 (typeOf (x .kind)) (sentBytes (x .sent)) q (omega arith) (type-byte (x .kind)))
 

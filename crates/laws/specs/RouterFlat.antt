@@ -112,7 +112,7 @@ module _ (b : List ℕ) (y : Bytes b) where
 -- ---------------------------------------------------------------- a delegation
 
 -- a delegation that is read in place
-abbrev leaseAt : List ℕ → ℕ → Lease
+abbrev pub leaseAt : List ℕ → ℕ → Lease
 leaseAt b at = lease (prefixIn at b) (someIf (numAt b (at + 33) 1) (prefix (num (part (at + 17) 16 b)) (numAt b (at + 33) 1)))
 
 module _ (b : List ℕ) (y : Bytes b) (at : ℕ) where
@@ -128,7 +128,7 @@ module _ (b : List ℕ) (y : Bytes b) (at : ℕ) where
   num-whole : (w i n : ℕ) → i + n ≤ w → at + w ≤ length b → numAt (part at w b) i n ≡ num (part (at + i) n b)
   num-whole w i n h l = num-part b at w i n h ∙ numAt-is b (at + i) n y (omega arith)
 
-  lease-read : (w : ℕ) → 34 ≤ w → at + w ≤ length b → leaseOf (part at w b) ≡ leaseAt b at
+  pub lease-read : (w : ℕ) → 34 ≤ w → at + w ≤ length b → leaseOf (part at w b) ≡ leaseAt b at
   unfolding leaseOf
   lease-read w h l = rw (num-whole w 0 16 (omega arith) l, num-part b at w 16 1 (omega arith), num-whole w 17 16 (omega arith) l, num-part b at w 33 1 (omega arith), add-zero at)
 
@@ -175,7 +175,7 @@ module _ (b : List ℕ) (y : Bytes b) (at : ℕ) (h : at + 131 ≤ length b) whe
   duid-length few = length-part (at + 1) n b (omega arith)
 
   -- a DUID that is cut of the bytes is short where its length is
-  duid-short : at + 132 ≤ length b → length (duidAt b at) ≤ 130 → n ≤ 130
+  pub duid-short : at + 132 ≤ length b → length (duidAt b at) ≤ 130 → n ≤ 130
   unfolding part
   duid-short m k =
       let e : length (duidAt b at) ≡ min n (length b - (at + 1)) = length-take n (drop (at + 1) b) ∙ ap (min n) (length-drop (at + 1) b) in
@@ -190,7 +190,7 @@ module _ (b : List ℕ) (y : Bytes b) (at : ℕ) (h : at + 131 ≤ length b) whe
 
 -- ---------------------------------------------------------------- the server, the hold, the exchange
 
-known-if : (n : ℕ) (d : Duid) → known (someIf n d) ≡ not (eqb n 0)
+pub known-if : (n : ℕ) (d : Duid) → known (someIf n d) ≡ not (eqb n 0)
 known-if n d = by (eqb n 0)
   where
     by : (t : Bool) → known (cond t none (some d)) ≡ not t

@@ -162,7 +162,7 @@ module _ (b : List ℕ) (at : ℕ) where
 
 -- ---------------------------------------------------------------- a state
 
-asker-facts : (r : Router) → Sound r → (length (r .me .duid) ≤ 130) × (r .me .iaid < 2 ^ 32) × (r .wanted ≤ 64)
+pub asker-facts : (r : Router) → Sound r → (length (r .me .duid) ≤ 130) × (r .me .iaid < 2 ^ 32) × (r .wanted ≤ 64)
 asker-facts r f =
     let d = r .me .duid in
     let a = both (goodIdentity (r .me)) (leb (r .wanted) 64) (f .asker) in

@@ -1,6 +1,6 @@
 -- What the router's operations tell: each meets what Readings says of its steps.
-use Prim.Native.Nat.{ℕ, suc, _+_, _-_, _≤_, _<_, _%_, _^_}
-use mathlib.Core.Path.{_≡_, refl, sym, _∙_, ap, subst}
+use Prim.Native.Nat.{ℕ, _+_, _≤_, _<_, _^_}
+use mathlib.Core.Path.{_≡_, refl, sym, _∙_, ap}
 use mathlib.Core.Bool.{Bool, true, false, cond, not, _&&_, _||_, true≢false, false≢true}
 use mathlib.Core.List.{List, [], _∷_}
 use mathlib.Core.Logic.{_⊎_, inl, inr}
@@ -8,63 +8,26 @@ use mathlib.Core.Option.{Option, none, some, Option·none-ne-some}
 use native.Mathlib.Omega.{arith}
 use lib.Dec.{eqb, leb, ltb}
 use lib.ListN.{length, getD}
-use lib.Pow.{pow-pos}
-use borrow.Author.Tests.{eqb-true, leb-true, leb-false, le-leb, ltb-true, ltb-false, lt-ltb, not-true, not-false}
-use Rattle.rules.specs.Words.{all, any, first, sameBytes}
-use Rattle.rules.specs.Refusals.{Res, refuse, done, unless, badTime, wrongSize}
-use Rattle.rules.specs.Prefix.{Prefix, prefix, fits, zeroAfter, Lease, lease, leaseEncodable}
-use Rattle.rules.specs.Message.{Listed, Ia, Message, read, wellFormed, print}
-use Rattle.rules.specs.Clock.{Moment, Lifetime, plus, goodEnd}
-use Rattle.rules.specs.Identity.{Duid, Identity, identity, goodDuid, goodIdentity, typeOf, kindOf, answerType, served, isRelease, stands}
+use borrow.Author.Tests.{eqb-true, leb-false, ltb-false, not-false}
+use Rattle.rules.specs.Words.{all, first, sameBytes}
+use Rattle.rules.specs.Refusals.{done, wrongSize}
+use Rattle.rules.specs.Prefix.{Lease, lease}
+use Rattle.rules.specs.Message.{Listed, Ia, read, wellFormed, print}
+use Rattle.rules.specs.Clock.{Moment, Lifetime, plus}
+use Rattle.rules.specs.Identity.{Duid, Identity, identity, typeOf, kindOf, answerType, isRelease, stands}
 use Rattle.rules.specs.Box.{startTests, clientOf, iaOf}
-use Rattle.rules.specs.Router.{Hold, Exchange, Router, known, goodLease, goodServer, goodHold, goodSent, goodExchange, goodAsker, soundRouter, numberAfter, numberBefore, listing, lists, query, holds, allows, carries, tooSoon, isOpen, exchangeFor, begun, again, closed, goodIa, goodIas, mayOffer, fromServer, awaited, takes, heldUntil, taken, heldAfter, serverAfter, accept, routerStart, sendTests, withQuery, routerSend, wantsServer, resendTests, openOf, routerResend, abandonTests, routerAbandon, receiveTests, routerReceive}
+use Rattle.rules.specs.Router.{Hold, Exchange, Router, known, goodAsker, soundRouter, numberBefore, query, holds, allows, isOpen, exchangeFor, begun, again, closed, goodIa, goodIas, mayOffer, fromServer, awaited, takes, taken, heldAfter, accept, routerStart, sendTests, routerSend, resendTests, openOf, routerResend, abandonTests, routerAbandon, receiveTests, routerReceive}
 use Rattle.rules.specs.declared.Kind.{Kind}
 use Rattle.rules.specs.declared.Kind.the-variants.{Solicit, Request, Renew, Rebind, Release}
-use Rattle.laws.specs.Tests.{both, both-made, neither, either, false-true}
+use Rattle.laws.specs.Tests.{both, neither}
 use Rattle.laws.specs.Refusals.{unless-done, one, two}
-use Rattle.laws.specs.Kinds.{served-type, type-kind, type-served, answer-unserved, one-stands, bytes-true, identity-path}
-use Rattle.laws.specs.Every.{Every}
+use Rattle.laws.specs.Kinds.{type-kind, one-stands, bytes-true}
 use Rattle.laws.specs.RouterFields.{Sound, sound-facts}
-use Rattle.laws.specs.Round.{FineListed, FineIa, Fine, print-read}
+use Rattle.laws.specs.RouterKeeps.{moment, number-before, begun-sound, again-sound, open-some, query-able}
+use Rattle.laws.specs.Round.{Fine, print-read}
 use Rattle.promises.specs.Readings.{Up, Down, hold, Held, Open, Busy, holding, asking, Fit, Moves, Began, Resent, Got, Fresh}
 
 -- ---------------------------------------------------------------- the message of an exchange
-
-asker-facts : (i : Identity) (n : ℕ) → goodAsker i n ≡ true → (i .iaid < 2 ^ 32) × (n ≤ 64)
-asker-facts i n e =
-    let a = both (goodIdentity i) (leb n 64) e in
-    let b = both (goodDuid (i .duid)) (ltb (i .iaid) (2 ^ 32)) (a .0) in
-    (ltb-true _ _ (b .1), leb-true _ _ (a .1))
-
-listing-fine : (l : Lease) → leaseEncodable (l .prefix) (l .except) ≡ true → Every FineListed (listing l)
-listing-fine l e = (record { preferred = pow-pos 32; valid = pow-pos 32; encodes = e }, tt)
-
-lists-fine : (n : ℕ) → n ≤ 64 → (o : Option Lease) → ((l : Lease) → o ≡ some l → goodLease l ≡ true) → Every FineListed (lists n o)
-unfolding goodLease
-lists-fine n h none f = by (eqb n 0)
-  where
-    by : (b : Bool) → Every FineListed (cond b [] (listing (lease (prefix 0 n) none)))
-    by true = tt
-    by false = listing-fine (lease (prefix 0 n) none) (both-made (le-leb n 128 (omega arith)) (lt-ltb 0 (2 ^ 128) (pow-pos 128)))
-lists-fine n h (some l) f = listing-fine l (both (leaseEncodable (l .prefix) (l .except)) (zeroAfter (l .prefix)) (f l refl) .0)
-
--- the prefix that a sound exchange sends is good
-sent-good : (k : Kind) (o : Option Lease) → goodSent k o ≡ true → (l : Lease) → o ≡ some l → goodLease l ≡ true
-sent-good k none e l q = absurd (Option·none-ne-some l q)
-sent-good Solicit (some m) e l q = absurd (false≢true e)
-sent-good Request (some m) e l q = absurd (false≢true e)
-sent-good Renew (some m) e l q = let w : m ≡ l = cc in rw (← w) e
-sent-good Rebind (some m) e l q = let w : m ≡ l = cc in rw (← w) e
-sent-good Release (some m) e l q = let w : m ≡ l = cc in rw (← w) e
-
-query-fine : (r : Router) (x : Exchange) → goodAsker (r .me) (r .wanted) ≡ true → ((l : Lease) → x .sent ≡ some l → goodLease l ≡ true) → Fine (query r x)
-unfolding query
-query-fine r x g f =
-    let a = asker-facts (r .me) (r .wanted) g in
-    record {
-      number = omega arith;
-      ias = (record { iaid = a .0; t1 = pow-pos 32; t2 = pow-pos 32; listed = lists-fine (r .wanted) (a .1) (x .sent) f }, tt);
-    }
 
 -- what the box reads of it: its own kind, number and identity
 module _ (r : Router) (x : Exchange) (f : Fine (query r x)) where
@@ -108,30 +71,6 @@ starts i w n r e = one (Fresh i n) (unless-done (startTests (goodAsker i w) n) e
 
 -- ---------------------------------------------------------------- a new exchange
 
--- now for a Release, and the old moment for another
-moment : (b : Bool) (n f : ℕ) → f ≤ n → (f ≤ cond b n f) × (cond b n f ≤ n)
-moment true n f l = omega arith
-moment false n f l = omega arith
-
--- a prefix that is held and hasn't ended is good
-holds-good : (s : Option Duid) (n : Moment) (h : Option Hold) → goodHold s h ≡ true → (l : Lease) → holds n h ≡ some l → goodLease l ≡ true
-holds-good s n none g l e = absurd (Option·none-ne-some l e)
-holds-good s n (some h) g l e = by (ltb n (h .end)) e
-  where
-    good : goodLease (h .lease) ≡ true
-    good = both (known s) (goodLease (h .lease)) (both (known s && goodLease (h .lease)) (goodEnd (h .end)) g .0) .1
-
-    by : (b : Bool) → cond b (some (h .lease)) none ≡ some l → goodLease l ≡ true
-    by true e = let w : h .lease ≡ l = cc in rw (← w) good
-    by false e = absurd (Option·none-ne-some l e)
-
-carries-good : (k : Kind) (o : Option Lease) → ((l : Lease) → o ≡ some l → goodLease l ≡ true) → (l : Lease) → carries k o ≡ some l → goodLease l ≡ true
-carries-good Solicit o f l e = absurd (Option·none-ne-some l e)
-carries-good Request o f l e = absurd (Option·none-ne-some l e)
-carries-good Renew o f l e = f l e
-carries-good Rebind o f l e = f l e
-carries-good Release o f l e = f l e
-
 cond-none : {A : Type 0} {x : Option A} {y : A} (b : Bool) → cond b none x ≡ some y → (b ≡ false) × (x ≡ some y)
 cond-none true e = absurd (Option·none-ne-some _ e)
 cond-none false e = (refl, e)
@@ -140,12 +79,13 @@ cond-empty : {A : Type 0} (x : Option A) (b : Bool) → b ≡ true → cond b no
 cond-empty x true e = refl
 cond-empty x false e = absurd (false≢true e)
 
-number-before : (x : ℕ) → x < 2 ^ 24 → numberBefore (numberAfter x) ≡ x
-number-before x h = omega arith
-
-module _ (k : Kind) (r : Router) (n : Moment) (g : Sound r) (late : r .last ≤ n) (h1 : r .started + 60 < n) (h2 : r .freed + 60 < n) (h3 : r .began < n) where
+module _ (k : Kind) (r : Router) (n : Moment) (sound : soundRouter r ≡ true) (late : r .last ≤ n) (time : n < 2 ^ 48) (may : allows k r n ≡ true)
+    (h1 : r .started + 60 < n) (h2 : r .freed + 60 < n) (h3 : r .began < n) where
   abbrev x : Exchange
   x = exchangeFor k r n
+
+  abbrev g : Sound r
+  g = sound-facts r sound
 
   -- the open exchange of the new state is the new one
   opened : {b : Bool} → Open (begun k r n) b → isRelease k ≡ b
@@ -154,7 +94,7 @@ module _ (k : Kind) (r : Router) (n : Moment) (g : Sound r) (late : r .last ≤ 
 
   begun-fine : Fine (query (begun k r n) x)
   unfolding begun
-  begun-fine = query-fine (begun k r n) x (g .asker) (carries-good k (holds n (r .held)) (holds-good (r .server) n (r .held) (g .held)))
+  begun-fine = query-able (begun k r n) (begun-sound r n sound late time k may) x refl .fine
 
   m′ : (r .freed ≤ cond (isRelease k) n (r .freed)) × (cond (isRelease k) n (r .freed) ≤ n)
   m′ = moment (isRelease k) n (r .freed) (omega (arith, g .freed-last))
@@ -184,31 +124,21 @@ unfolding routerSend
 begins k r r′ n room m f e =
     let a = unless-done (sendTests k r n room) e in
     let p = a .0 in
-    let g = sound-facts r (not-false _ (p .0)) in
     let t = neither (ltb n (r .last)) (leb (2 ^ 48) n) (p .1 .0) in
     let s = neither (leb n (r .started + 60) || leb n (r .freed + 60)) (leb n (r .began)) (p .1 .1 .1 .1 .0) in
     let u = neither (leb n (r .started + 60)) (leb n (r .freed + 60)) (s .0) in
-    two (Began r n) (a .1) (begins-so k r n g (ltb-false _ _ (t .0)) (leb-false _ _ (u .0)) (leb-false _ _ (u .1)) (leb-false _ _ (s .1)))
+    two (Began r n) (a .1) (begins-so k r n (not-false _ (p .0)) (ltb-false _ _ (t .0)) (leb-false _ _ (t .1)) (not-false _ (p .1 .1 .1 .1 .1 .0)) (leb-false _ _ (u .0)) (leb-false _ _ (u .1)) (leb-false _ _ (s .1)))
 
 -- ---------------------------------------------------------------- the open exchange again
 
-open-some : (o : Option Exchange) → isOpen o ≡ true → o ≡ some (openOf o)
-open-some none e = absurd (false≢true e)
-open-some (some x) e = refl
-
--- the exchange that is open sends a good prefix
-exchange-good : (s : Option Duid) (o : Option Exchange) → goodExchange s o ≡ true → isOpen o ≡ true → goodSent (openOf o .kind) (openOf o .sent) ≡ true
-exchange-good s none g e = absurd (false≢true e)
-exchange-good s (some x) g e = both (not (wantsServer (x .kind)) || known s) (goodSent (x .kind) (x .sent)) g .1
-
-module _ (r : Router) (n : Moment) (x : Exchange) (is : r .exchange ≡ some x) (f : Fit r) (g : Sound r) (good : goodSent (x .kind) (x .sent) ≡ true) (late : r .last ≤ n) where
+module _ (r : Router) (n : Moment) (x : Exchange) (is : r .exchange ≡ some x) (f : Fit r) (sound : soundRouter r ≡ true) (late : r .last ≤ n) (time : n < 2 ^ 48) where
   again-opens : (b : Bool) → Open (again r n x) b → Open r b
   unfolding again
   again-opens b o = let w : x ≡ o .exchange = cc in record { exchange = x; is = is; frees = ap (λ y. isRelease (y .kind)) w ∙ o .frees }
 
   again-fine : Fine (query (again r n x) x)
   unfolding again
-  again-fine = query-fine (again r n x) x (g .asker) (sent-good (x .kind) (x .sent) good)
+  again-fine = query-able (again r n x) (again-sound r n sound late time x is) x refl .fine
 
   -- a Release is open only beside nothing held, so the last sending of a Release changes only for one that isn't busy
   again-busy : (b : Bool) → isRelease (x .kind) ≡ b → Busy (again r n x) → Busy r × (cond b n (r .freed) ≡ r .freed)
@@ -219,7 +149,7 @@ module _ (r : Router) (n : Moment) (x : Exchange) (is : r .exchange ≡ some x) 
   again-busy true q (asking o) = let p = again-opens false o in let w : x ≡ o .exchange = cc in absurd (true≢false (sym q ∙ ap (λ y. isRelease (y .kind)) w ∙ o .frees))
 
   moved : (r .freed ≤ cond (isRelease (x .kind)) n (r .freed)) × (cond (isRelease (x .kind)) n (r .freed) ≤ n)
-  moved = moment (isRelease (x .kind)) n (r .freed) (omega (arith, g .freed-last))
+  moved = moment (isRelease (x .kind)) n (r .freed) (omega (arith, sound-facts r sound .freed-last))
 
   repeats-so : Resent r n (again r n x) (print (query (again r n x) x))
   unfolding again
@@ -245,10 +175,9 @@ unfolding routerResend
 repeats r r′ n room m f e =
     let a = unless-done (resendTests r n room) e in
     let p = a .0 in
-    let g = sound-facts r (not-false _ (p .0)) in
     let t = neither (ltb n (r .last)) (leb (2 ^ 48) n) (p .1 .0) in
     let o = not-false _ (p .1 .1 .1 .0) in
-    two (Resent r n) (a .1) (repeats-so r n (openOf (r .exchange)) (open-some (r .exchange) o) f g (exchange-good (r .server) (r .exchange) (g .exchange) o) (ltb-false _ _ (t .0)))
+    two (Resent r n) (a .1) (repeats-so r n (openOf (r .exchange)) (open-some (r .exchange) o) f (not-false _ (p .0)) (ltb-false _ _ (t .0)) (leb-false _ _ (t .1)))
 
 -- ---------------------------------------------------------------- the exchange closed
 
