@@ -2,6 +2,9 @@
 use libc::STDOUT_FILENO;
 use lone::IdRead;
 use lone::MessageRead;
+use show::say;
+use show::say_hex;
+use show::say_number;
 
 const HOME: u64 = 0x2001_0db8_dead_bee0;
 
@@ -17,22 +20,6 @@ fn bits(upper: u64, lower: u64) -> [u8; 16] {
     cells::put(&mut b, 0, 8, upper);
     cells::put(&mut b, 8, 8, lower);
     b
-}
-
-fn say(text: &[u8]) {
-    io::write_all(STDOUT_FILENO, text);
-}
-
-fn say_number(n: usize) {
-    io::print_decimal(STDOUT_FILENO, n as u64);
-}
-
-fn say_hex(b: &[u8]) {
-    let mut i = 0;
-    while i < b.len() {
-        io::print_hex(STDOUT_FILENO, cells::wide(b[i]), 2);
-        i += 1;
-    }
 }
 
 // What a PD Exclude inside p of length a reads as: the excluded prefix, or the number that refuses it.

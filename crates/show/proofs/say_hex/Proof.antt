@@ -2,8 +2,8 @@ use Prim.Native.Nat.{_-_, _≤_}
 use native.Mathlib.Omega.{arith}
 use borrow.Author.Needs.{needs}
 use lib.ListN.{length}
-use Rattle.vectors.proofs.say_hex.Statement.{statement}
-use Rattle.vectors.proofs.say_hex.Tie as tie
+use Rattle.show.proofs.say_hex.Statement.{statement}
+use Rattle.show.proofs.say_hex.Tie as tie
 
 abbrev Inv-loop : tie.InvT-loop
 Inv-loop b i₀ i = i ≤ length b
