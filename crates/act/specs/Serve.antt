@@ -1,5 +1,4 @@
 -- A message served over a table without ended records, and what is known of one that is accepted.
-use mathlib.Core.Path.{_≡_}
 use mathlib.Core.List.{List}
 use Prim.Native.Nat.{ℕ, _≤_, _<_, _^_}
 use lib.ListN.{length}

@@ -1,9 +1,9 @@
 // Bytes in a lent slice: numbers, copies, comparisons. Each write leaves the slice with one part put in.
 ghost use mathlib.Core.Path.{_≡_};
-ghost use Prim.Native.Nat.{ℕ, _+_, _-_, _*_, _≤_, _<_, _^_};
+ghost use Prim.Native.Nat.{_+_, _-_, _*_, _≤_, _<_, _^_};
 ghost use lib.Dec.{eqb};
 ghost use lib.ListN.{length, replicate};
-ghost use Rattle.rules.specs.Words.{all, part, splice, filled, sameBytes, num, be, numAt};
+ghost use Rattle.rules.specs.Words.{all, part, splice, filled, sameBytes, be, numAt};
 
 pub fn wide(x: u8) -> u64
     ensures { λ r. ⌜ (r ≡ x) × (r < 256) ⌝ }

@@ -1,19 +1,17 @@
 -- The Status Codes of an IA_PD change nothing of what the box does.
-use mathlib.Core.Path.{_≡_, refl, sym, ap, _∙_}
-use mathlib.Core.Bool.{Bool, true, false, cond, not, _&&_}
+use mathlib.Core.Path.{_≡_, refl}
+use mathlib.Core.Bool.{Bool, true, false, not}
 use mathlib.Core.List.{List, [], _∷_, map}
 use mathlib.Core.Option.{Option, none, some}
-use Prim.Native.Nat.{ℕ}
-use lib.Dec.{ltb}
-use lib.ListN.{length, length-map}
-use Rattle.rules.specs.Words.{all, any, consIf, keep}
+use lib.ListN.{length-map}
+use Rattle.rules.specs.Words.{any, consIf, keep}
 use Rattle.rules.specs.Prefix.{Prefix, samePrefix, inside}
 use Rattle.rules.specs.Message.{Listed}
 use Rattle.rules.specs.Clock.{Moment}
 use Rattle.rules.specs.Settings.{Settings}
-use Rattle.rules.specs.Table.{Record, isBinding, giveUp}
+use Rattle.rules.specs.Table.{Record}
 use Rattle.rules.specs.Choose.{choose}
-use Rattle.rules.specs.Box.{binding, returned, others, gone, sameExcept, isFreed, hintOf, return, silence, success, noBinding, Served, leaves, Asked, serveSolicit, serveRequest, serveRenew, serveRebind, serveRelease, serve}
+use Rattle.rules.specs.Box.{binding, returned, others, gone, sameExcept, isFreed, hintOf, Asked, serveSolicit, serveRequest, serveRenew, serveRebind, serveRelease, serve}
 use Rattle.rules.specs.declared.Kind.{Kind}
 use Rattle.rules.specs.declared.Kind.the-variants.{Solicit, Request, Renew, Rebind, Release}
 use Rattle.laws.specs.Loops.{all-map}

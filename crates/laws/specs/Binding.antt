@@ -1,14 +1,14 @@
 -- An identity's binding: the first record of the identity, if it is live; dropping ended records changes nothing of that.
 use mathlib.Core.Path.{_≡_, refl, sym, ap, _∙_}
-use mathlib.Core.Bool.{Bool, true, false, cond, not, _&&_, Bool·not-not}
+use mathlib.Core.Bool.{Bool, true, false, cond, not, Bool·not-not}
 use mathlib.Core.List.{List, [], _∷_}
-use mathlib.Core.Option.{Option, none, some, Option·none-ne-some}
+use mathlib.Core.Option.{Option, none, some}
 use borrow.Author.Tests.{not-true}
 use Rattle.rules.specs.Words.{all, noTwo, consIf, keep, first}
 use Rattle.rules.specs.Clock.{Moment}
 use Rattle.rules.specs.Identity.{Identity, sameIdentity}
 use Rattle.rules.specs.Prefix.{overlap}
-use Rattle.rules.specs.Table.{Record, isBinding, area, mayStand, live, giveUp, current}
+use Rattle.rules.specs.Table.{Record, isBinding, area, mayStand, live, current}
 use Rattle.rules.specs.Box.{binding}
 use Rattle.laws.specs.Tests.{both, false-true}
 use Rattle.laws.specs.Loops.{all-sub, all-keep}

@@ -1,22 +1,22 @@
 -- Laws of the choice: what it gives is free, aligned, in the pool and of a good length; the walk for one length gives the lowest
 -- free place, and gives none only where none is free; so the choice gives none only where no /60 is free.
 use mathlib.Core.Path.{_≡_, refl, sym, ap, _∙_, subst}
-use mathlib.Core.Bool.{Bool, true, false, cond, not, _&&_}
+use mathlib.Core.Bool.{Bool, true, false, cond, not}
 use mathlib.Core.List.{List}
-use mathlib.Core.Logic.{_⊎_, inl, inr, ⊎-elim}
+use mathlib.Core.Logic.{_⊎_, inl, inr}
 use mathlib.Core.Option.{Option, none, some, Option·none-ne-some, Option·some-ne-none}
-use Prim.Native.Nat.{ℕ, zero, suc, _+_, _-_, _*_, _/_, _%_, _^_, _≤_, _<_, min}
-use native.Mathlib.Nat.{suc-mul, add-mul, one-mul, zero-mul, div-eq-of-lt-le, mul-le-mul-right, div-lt-iff-lt-mul, min-eq-left, min-eq-right, div-add-mod', mod-lt}
+use Prim.Native.Nat.{ℕ, zero, suc, _+_, _-_, _*_, _/_, _%_, _^_, _≤_, _<_}
+use native.Mathlib.Nat.{suc-mul, add-mul, one-mul, zero-mul, div-eq-of-lt-le, mul-le-mul-right, div-lt-iff-lt-mul, div-add-mod', mod-lt}
 use native.Mathlib.Omega.{arith}
 use lib.Dec.{eqb, leb, ltb}
 use lib.Pow.{pow-pos}
 use lib.ListN.{length}
-use borrow.Author.Tests.{eq-eqb, eqb-true, eqb-false, leb-true, leb-false, le-leb, ltb-true, ltb-false, lt-ltb, not-true, not-false}
+use borrow.Author.Tests.{eq-eqb, eqb-true, leb-true, leb-false, le-leb, ltb-false, not-true}
 use Rattle.rules.specs.Words.{all, first}
-use Rattle.rules.specs.Prefix.{Prefix, prefix, size, front, zeroAfter, overlap, inside, lastOf, nextPlace}
+use Rattle.rules.specs.Prefix.{Prefix, prefix, size, zeroAfter, overlap, inside, lastOf, nextPlace}
 use Rattle.rules.specs.Settings.{Settings}
 use Rattle.rules.specs.Table.{Record, area}
-use Rattle.rules.specs.Choose.{wanted, wantedFor, hits, free, isPlace, tried, within, walkFrom, lowest, orLonger, shortestFrom, otherwise, unlessFull, choose}
+use Rattle.rules.specs.Choose.{wanted, hits, free, isPlace, within, walkFrom, lowest, orLonger, shortestFrom, otherwise, unlessFull, choose}
 use Rattle.laws.specs.Tests.{both, both-made, false-true, lt-or-ge}
 use Rattle.laws.specs.Loops.{first-none, first-all, all-sub}
 use Rattle.laws.specs.Prefix.{size-split, whole, finer, overlap-wider, inside-longer, next-zero, past-above, past}

@@ -19,11 +19,11 @@ use lib.Arith.{digits-lt}
 use lib.Pow.{pow-pos, pow-add, shl-lt, shr-lt, split, high, low, high-ones, pow-sub-lt, mod-pow-add, mod-mod-pow, field, shl-shr}
 use borrow.Author.Tests.{eq-eqb, eqb-true, leb-true, ltb-true, lt-ltb, le-leb}
 use Rattle.rules.specs.Words.{splice, num, be}
-use Rattle.rules.specs.Prefix.{Prefix, prefix, size, front, zeroAfter, fits, bytesFor, pad, packed, unpacked, excludeBytes, encodable, contentOk, last64}
+use Rattle.rules.specs.Prefix.{Prefix, prefix, size, front, zeroAfter, bytesFor, pad, packed, unpacked, excludeBytes, encodable, contentOk, last64}
 use Rattle.laws.specs.Tests.{both, both-made}
 use Rattle.laws.specs.Numbers.{Bytes, num-lt, num-be-fits, be-num, be-digit, length-be}
 use Rattle.laws.specs.Parts.{left-list, left-bytes}
-use Rattle.laws.specs.Bits.{bits8, joined, Sixteen, sixteen-lt, power, shift-back, num-append, num-zeros, window}
+use Rattle.laws.specs.Bits.{bits8, joined, Sixteen, power, shift-back, num-append, num-zeros, window}
 
 -- ---------------------------------------------------------------- what the tests say
 

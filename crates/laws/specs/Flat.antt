@@ -2,32 +2,30 @@
 --   goodRow       a record, in its 153 bytes
 --   row-sound     the same as a good record whose representation the bytes are
 --   flatSound     a table, in its bytes
-use mathlib.Core.Path.{_≡_, refl, sym, ap, _∙_, subst}
-use mathlib.Core.Bool.{Bool, true, false, cond, not, _&&_, and-true, and-assoc}
+use mathlib.Core.Path.{_≡_, refl, sym, ap, _∙_}
+use mathlib.Core.Bool.{Bool, true, false, not, _&&_, and-true, and-assoc}
 use mathlib.Core.List.{List, [], _∷_, _++_, map, append-assoc}
-use mathlib.Core.Option.{Option, none, some}
 use Prim.Native.Nat.{ℕ, zero, suc, _+_, _-_, _*_, _/_, _%_, _≤_, _<_, _^_, min}
 use native.Mathlib.Nat.{mod-eq-of-lt, div-one}
 use native.Mathlib.Omega.{arith}
 use lib.Dec.{eqb, leb, ltb}
 use lib.Pow.{shl-shr, shl-lt}
-use lib.ListN.{length, getD, take, drop, replicate, length-append, length-take, length-drop, length-map}
-use lib.Seq.{drop-drop, take-take, take-all, length-take-le}
-use borrow.Author.Tests.{eqb-true, eqb-false, eq-eqb, ne-eqb, leb-true, leb-false, le-leb, lt-leb, ltb-true, lt-ltb}
-use Rattle.rules.specs.Words.{all, noTwo, each, from, part, filled, sameBytes, num, be, numAt}
+use lib.ListN.{length, take, drop, replicate, length-append, length-take, length-drop, length-map}
+use lib.Seq.{take-take, take-all}
+use borrow.Author.Tests.{eqb-true, eqb-false, eq-eqb, leb-true, le-leb, ltb-true, lt-ltb}
+use Rattle.rules.specs.Words.{all, noTwo, each, from, part, filled, sameBytes, be, numAt}
 use Rattle.rules.specs.Prefix.{Prefix, prefix, zeroAfter, inside, samePrefix, last64, fits, exceptFor}
 use Rattle.rules.specs.Clock.{forEver, goodEnd}
-use Rattle.rules.specs.Identity.{Duid, identity, goodDuid, goodIdentity}
+use Rattle.rules.specs.Identity.{identity, goodDuid}
 use Rattle.rules.specs.Settings.{Settings, goodSettings}
-use Rattle.rules.specs.Table.{Record, Table, mayStand, goodExcept, goodRecord, sound}
-use Rattle.rules.specs.TableBytes.{recordSize, headerSize, tableSize, place, flag, isSome, recordBytes, headerBytes, tableBytes, recordOf, rowAt, recordAt, settingsOf, countOf, tableOf, soundBytes}
-use Rattle.laws.specs.Tests.{both, both-made, false-true, same-test}
+use Rattle.rules.specs.Table.{mayStand, goodExcept, goodRecord, sound}
+use Rattle.rules.specs.TableBytes.{tableSize, place, flag, isSome, recordBytes, headerBytes, tableBytes, recordOf, rowAt, recordAt, settingsOf, countOf, tableOf, soundBytes}
+use Rattle.laws.specs.Tests.{both, both-made}
 use Rattle.laws.specs.Parts.{length-part, drop-part}
 use Rattle.laws.specs.Loops.{from-length, all-at, all-made}
 use Rattle.laws.specs.Rows.{Sized, no-more, one-more, each-length}
-use Rattle.laws.specs.Numbers.{Bytes, bytes-part, numAt-fits, length-be, num-be-fits}
-use Rattle.laws.specs.Kinds.{bytes-true, bytes-refl}
-use Rattle.laws.specs.Same.{same-bool, same-eq, same-append, same-split, same-zeros, same-length, filled-length, same-number, same-filled, same-field, same-read}
+use Rattle.laws.specs.Numbers.{Bytes, bytes-part, numAt-fits, length-be}
+use Rattle.laws.specs.Same.{same-bool, same-zeros, filled-length, same-number, same-filled, same-field, same-read}
 use Rattle.laws.specs.Sound.{good-facts, sound-facts, sound-made, record-facts, record-made, same-refl}
 
 -- ---------------------------------------------------------------- one byte

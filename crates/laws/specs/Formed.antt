@@ -12,13 +12,13 @@ use borrow.Author.Tests.{eqb-true, leb-true}
 use lib.Dec.{eqb, leb}
 use lib.ListN.{length, getD}
 use Rattle.rules.specs.Words.{consIf}
-use Rattle.rules.specs.Options.{Area, over, stop, opt, areaOf, andThen, wants, scan, excludeOk, checkPrefix, checkPd, own, check, isGood, options, nth}
+use Rattle.rules.specs.Options.{Area, over, stop, opt, areaOf, wants, scan, excludeOk, checkPrefix, checkPd, own, check, options, nth}
 use Rattle.rules.specs.Message.{listedAt, iaAt, top, wellFormed}
 use Rattle.rules.specs.declared.Level.{Level}
 use Rattle.rules.specs.declared.Level.the-variants.{Top, InPd, InPrefix}
 use Rattle.rules.specs.declared.Found.the-variants.{At, Nothing}
 use Rattle.rules.specs.declared.Checked.{Checked}
-use Rattle.rules.specs.declared.Checked.the-variants.{Good, Broken}
+use Rattle.rules.specs.declared.Checked.the-variants.{Good}
 use Rattle.laws.specs.Told.{is-good, and-good, wants-good}
 use Rattle.laws.specs.Tests.{both}
 use Rattle.laws.specs.Walk.{nth-inside}

@@ -1,6 +1,6 @@
 -- Laws of the kinds of message and of identities.
-use mathlib.Core.Path.{_≡_, refl, sym, ap, _∙_}
-use mathlib.Core.Bool.{Bool, true, false, cond, _&&_, _||_}
+use mathlib.Core.Path.{_≡_, refl, ap, _∙_}
+use mathlib.Core.Bool.{Bool, true, false, cond, _||_}
 use mathlib.Core.List.{List, [], _∷_}
 use Prim.Native.Nat.{ℕ}
 use native.Mathlib.Omega.{arith}
@@ -9,7 +9,7 @@ use lib.ListN.{length, getD}
 use borrow.Author.Tests.{eqb-true, eq-eqb}
 use Rattle.rules.specs.Words.{all, sameBytes}
 use Rattle.rules.specs.Message.{Message}
-use Rattle.rules.specs.Identity.{Duid, Identity, identity, goodDuid, sameIdentity, served, kindOf, typeOf, answerType, identityRows, rowOf, stands, rowHolds}
+use Rattle.rules.specs.Identity.{Duid, Identity, goodDuid, sameIdentity, served, kindOf, typeOf, answerType, identityRows, rowOf, stands, rowHolds}
 use Rattle.rules.specs.declared.Kind.{Kind}
 use Rattle.rules.specs.declared.Kind.the-variants.{Solicit, Request, Renew, Rebind, Release}
 use Rattle.laws.specs.Tests.{both, both-made, false-true}

@@ -2,7 +2,7 @@
 --   turn, end         of each shape: what is still to be done is one more and the rest, or nothing
 --   -at, -made        what holds of a list holds at each place, and back
 --   -keep, -last      what a filter leaves and one more at the end keep
-use mathlib.Core.Path.{_≡_, refl, sym, ap, _∙_}
+use mathlib.Core.Path.{_≡_, refl, ap, _∙_}
 use mathlib.Core.Bool.{Bool, true, false, cond, not, _&&_}
 use mathlib.Core.List.{List, [], _∷_, _++_, map}
 use mathlib.Core.Option.{Option, none, some, Option·none-ne-some, Option·some-ne-none}
@@ -12,7 +12,7 @@ use lib.Dec.{eqb}
 use lib.ListN.{length, getD, drop, drop-of-length-le}
 use borrow.Author.Tests.{eq-eqb, ne-eqb, eqb-true, eqb-false}
 use Rattle.rules.specs.Words.{all, noTwo, consIf, keep, first, from, part, sameBytes}
-use Rattle.laws.specs.Tests.{false-true, both}
+use Rattle.laws.specs.Tests.{both}
 use Rattle.laws.specs.Parts.{left, left-part, left-list}
 
 -- the place of the first that passes, counted from i

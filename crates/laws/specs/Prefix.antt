@@ -5,9 +5,9 @@
 --   past                      where a record overlaps a place, it overlaps every place up to the next one past its end
 --   half-...                  prefixes of at most 64 bits by the upper half of their bits
 use mathlib.Core.Path.{_≡_, refl, sym, ap, _∙_, subst}
-use mathlib.Core.Bool.{Bool, true, false, _&&_}
+use mathlib.Core.Bool.{Bool, true, false}
 use Prim.Native.Nat.{ℕ, _+_, _-_, _*_, _/_, _%_, _^_, _≤_, _<_, min}
-use native.Mathlib.Nat.{mul-assoc, mul-mod-left, mod-lt, add-mul, one-mul, div-lt-iff-lt-mul, mul-le-mul-right, div-eq-of-lt-le, min-eq-left, min-eq-right, min-comm, div-add-mod', div-mul-le-self, le-of-lt, mod-eq-of-lt, mul-div-mul-right}
+use native.Mathlib.Nat.{mul-assoc, mul-mod-left, mod-lt, add-mul, one-mul, div-lt-iff-lt-mul, mul-le-mul-right, div-eq-of-lt-le, min-eq-left, min-eq-right, min-comm, div-add-mod', le-of-lt, mul-div-mul-right}
 use native.Mathlib.Omega.{arith}
 use lib.Dec.{eqb, leb, ltb}
 use lib.Pow.{pow-pos, pow-add, shr-shr, shl-shr, mod-pow-add}

@@ -1,30 +1,29 @@
 -- A sound table is read back from its representation, whole; and its representation is sound.
-use mathlib.Core.Path.{_≡_, refl, sym, ap, _∙_, subst}
-use mathlib.Core.Bool.{Bool, true, false, cond, not, _&&_}
+use mathlib.Core.Path.{_≡_, refl, sym, ap, _∙_}
+use mathlib.Core.Bool.{Bool, true, false, not}
 use mathlib.Core.List.{List, [], _∷_, _++_, map, append-assoc}
 use mathlib.Core.Option.{Option, none, some}
-use Prim.Native.Nat.{ℕ, zero, suc, _+_, _-_, _*_, _/_, _%_, _≤_, _<_, _^_}
+use Prim.Native.Nat.{ℕ, _+_, _-_, _*_, _/_, _%_, _≤_, _<_, _^_}
 use native.Mathlib.Omega.{arith}
 use lib.Dec.{eqb, leb, ltb}
-use lib.Pow.{shl-shr, split, shr-lt}
-use lib.ListN.{length, getD, take, drop, replicate, length-append, length-map, length-replicate}
-use borrow.Author.Tests.{eqb-true, eq-eqb, leb-true, le-leb, ltb-true, lt-ltb}
-use Rattle.rules.specs.Words.{all, noTwo, each, from, part, filled, sameBytes, num, be, numAt}
-use Rattle.rules.specs.Prefix.{Prefix, prefix, size, zeroAfter, inside, samePrefix, last64, fits, Lease, lease, exceptFor}
-use Rattle.rules.specs.Clock.{forEver, never, goodEnd}
-use Rattle.rules.specs.Identity.{Duid, Identity, identity, goodDuid, goodIdentity}
-use Rattle.rules.specs.Settings.{Settings, goodSettings}
+use lib.Pow.{split, shr-lt}
+use lib.ListN.{length, replicate, length-append, length-map, length-replicate}
+use borrow.Author.Tests.{eqb-true, leb-true, ltb-true}
+use Rattle.rules.specs.Words.{all, each, from, part, filled, sameBytes, numAt}
+use Rattle.rules.specs.Prefix.{Prefix, prefix, zeroAfter, samePrefix, last64, fits, Lease, lease, exceptFor}
+use Rattle.rules.specs.Clock.{never, goodEnd}
+use Rattle.rules.specs.Identity.{Duid, identity, goodDuid}
+use Rattle.rules.specs.Settings.{Settings}
 use Rattle.rules.specs.Table.{Record, Table, goodExcept, goodRecord, sound}
-use Rattle.rules.specs.TableBytes.{recordSize, headerSize, tableSize, place, flag, isSome, leased, recordBytes, headerBytes, tableBytes, recordOf, rowAt, recordAt, settingsOf, countOf, tableOf, soundBytes}
+use Rattle.rules.specs.TableBytes.{tableSize, place, flag, isSome, leased, recordBytes, headerBytes, tableBytes, recordOf, rowAt, recordAt, settingsOf, tableOf, soundBytes}
 use Rattle.laws.specs.Tests.{both, either}
-use Rattle.laws.specs.Loops.{from-length, from-map}
-use Rattle.laws.specs.Parts.{length-part}
+use Rattle.laws.specs.Loops.{from-map}
 use Rattle.laws.specs.Numbers.{length-be}
 use Rattle.laws.specs.Prefix.{finer, same-prefix, inside-fits}
 use Rattle.laws.specs.Kinds.{bytes-true, bytes-refl}
 use Rattle.laws.specs.Rows.{Sized, no-more, one-more, each-length, rows-each}
 use Rattle.laws.specs.Same.{filled-length}
-use Rattle.laws.specs.Stands.{Stands, stands-all, stands-head, stands-tail, stands-part, stands-num, stands-after}
+use Rattle.laws.specs.Stands.{Stands, stands-all, stands-head, stands-part, stands-num, stands-after}
 use Rattle.laws.specs.Sound.{Good, good-facts, Sound, sound-facts, sound-made, GoodRecord, record-facts}
 use mathlib.Core.Logic.{_⊎_, inl, inr}
 

@@ -2,18 +2,18 @@
 --   dropped          the header, the rows of the first n that pass, zeros, and what stood after them
 --   Going            a turn of the filter: what is kept so far, and what will be kept of the rest, is the result
 --   rows-dropped     the rows of what is left
-use mathlib.Core.Path.{_≡_, refl, sym, ap, _∙_}
+use mathlib.Core.Path.{_≡_, refl, sym, _∙_}
 use mathlib.Core.Bool.{Bool, true, false, cond}
 use mathlib.Core.List.{List, [], _∷_, _++_, append-assoc, append-nil}
 use Prim.Native.Nat.{ℕ, zero, suc, _+_, _-_, _*_, _≤_, _<_}
 use native.Mathlib.Nat.{add-zero, zero-add, sub-zero}
 use native.Mathlib.Omega.{arith}
-use lib.ListN.{length, take, drop, replicate, length-replicate, length-append, length-drop}
-use lib.Seq.{length-take-le, drop-at}
+use lib.ListN.{length, take, drop, replicate, length-replicate, length-append}
+use lib.Seq.{length-take-le}
 use Rattle.rules.specs.Words.{consIf, keep, each, from, part, splice}
 use Rattle.rules.specs.TableBytes.{headerSize, recordSize, tableSize, place, flag, rowAt}
-use Rattle.laws.specs.Parts.{left, length-part, length-splice, part-after, take-splice, drop-splice, part-mid, part-left, part-of-take}
-use Rattle.laws.specs.Loops.{from-turn, from-length, keep-few}
+use Rattle.laws.specs.Parts.{left, length-part, length-splice, part-after, take-splice, drop-splice, part-mid}
+use Rattle.laws.specs.Loops.{from-length, keep-few}
 
 abbrev pub rows : List ℕ → ℕ → ℕ → List (List ℕ)
 rows t i k = from (rowAt t) i k

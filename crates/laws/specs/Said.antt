@@ -1,12 +1,11 @@
 -- What the box says of an IA_PD is good: it has an encoding, it is short, and only the bound or offered prefix can be taken.
 use mathlib.Core.Path.{_≡_, refl, sym, ap, _∙_}
-use mathlib.Core.Bool.{Bool, true, false, cond, not, _&&_}
+use mathlib.Core.Bool.{Bool, true, false, cond, not}
 use mathlib.Core.List.{List, [], _∷_, map}
 use mathlib.Core.Option.{Option, none, some, Option·none-ne-some}
 use Prim.Native.Nat.{ℕ, _≤_, _<_, _^_}
 use native.Mathlib.Omega.{arith}
 use borrow.Author.Tests.{le-leb, lt-ltb}
-use lib.Dec.{leb, ltb}
 use lib.ListN.{length, getD, length-map}
 use Rattle.rules.specs.Words.{keep, first}
 use Rattle.rules.specs.Prefix.{Prefix, Lease, leaseEncodable, fits, zeroAfter, samePrefix, last64}

@@ -1,15 +1,14 @@
 -- Laws of `sameBytes`: lists beside each other, part by part; and of `filled`, a list with zeros up to a length.
 use mathlib.Core.Path.{_≡_, refl, sym, ap, _∙_, subst}
-use mathlib.Core.Bool.{Bool, true, false, _&&_, and-assoc, and-true}
-use mathlib.Core.List.{List, [], _∷_, _++_, append-nil}
-use Prim.Native.Nat.{ℕ, zero, suc, _+_, _-_, _*_, _≤_, _<_}
+use mathlib.Core.Bool.{Bool, true, false, _&&_, and-assoc}
+use mathlib.Core.List.{List, [], _∷_, _++_}
+use Prim.Native.Nat.{ℕ, zero, suc, _+_, _-_, _≤_}
 use native.Mathlib.Omega.{arith}
-use lib.Dec.{eqb, leb}
-use lib.ListN.{length, getD, take, drop, replicate, length-append, length-take, length-drop, length-replicate, take-append-drop}
+use lib.Dec.{eqb}
+use lib.ListN.{length, take, drop, replicate, length-append, length-drop, length-replicate, take-append-drop}
 use lib.Seq.{drop-drop, length-take-le}
-use borrow.Author.Tests.{eqb-true, eq-eqb, ne-eqb, le-leb, lt-leb}
 use Rattle.rules.specs.Words.{all, part, splice, filled, sameBytes, num, be, numAt}
-use Rattle.laws.specs.Tests.{both, both-made, false-true, same-test}
+use Rattle.laws.specs.Tests.{false-true}
 use Rattle.laws.specs.Parts.{length-part, splice-splice}
 use Rattle.laws.specs.Numbers.{Bytes, bytes-part, be-num, numAt-is, length-be}
 use Rattle.laws.specs.Kinds.{bytes-true, bytes-refl}

@@ -1,21 +1,21 @@
 -- A sound table stays sound: soundness taken apart and put together, and what each change of the records keeps.
-use mathlib.Core.Path.{_≡_, refl, sym, ap, _∙_, subst}
-use mathlib.Core.Bool.{Bool, true, false, cond, not, _&&_, _||_}
-use mathlib.Core.List.{List, [], _∷_, _++_, map}
-use mathlib.Core.Option.{Option, none, some, Option·none-ne-some}
+use mathlib.Core.Path.{_≡_, refl}
+use mathlib.Core.Bool.{Bool, true, false, cond, not, _&&_}
+use mathlib.Core.List.{List, [], _∷_, _++_}
+use mathlib.Core.Option.{Option, none, some}
 use mathlib.Core.Logic.{_⊎_, inl, inr}
-use Prim.Native.Nat.{ℕ, zero, suc, _+_, _-_, _≤_, _<_, _^_, max}
+use Prim.Native.Nat.{_+_, _-_, _≤_, _<_, _^_, max}
 use native.Mathlib.Nat.{max-eq-left, max-eq-right, le-of-lt}
 use native.Mathlib.Omega.{arith}
 use lib.Dec.{eqb, leb, ltb}
 use lib.ListN.{length, length-append, length-map}
-use borrow.Author.Tests.{eq-eqb, eqb-true, eqb-false, leb-true, le-leb, leb-false, ltb-true, ltb-false, lt-ltb, not-true, not-false}
-use Rattle.rules.specs.Words.{all, noTwo, keep, first, consIf}
-use Rattle.rules.specs.Prefix.{Prefix, zeroAfter, inside, overlap, samePrefix, last64, Lease, fits, exceptFor}
-use Rattle.rules.specs.Clock.{Moment, Lifetime, forEver, never, plus, goodEnd, extended}
-use Rattle.rules.specs.Identity.{Identity, goodIdentity, goodDuid, sameIdentity}
+use borrow.Author.Tests.{eq-eqb, leb-true, le-leb, ltb-true, lt-ltb}
+use Rattle.rules.specs.Words.{all, noTwo, keep, consIf}
+use Rattle.rules.specs.Prefix.{Prefix, zeroAfter, inside, samePrefix, last64, fits, exceptFor}
+use Rattle.rules.specs.Clock.{Moment, Lifetime, forEver, never, plus, goodEnd}
+use Rattle.rules.specs.Identity.{Identity, goodIdentity, goodDuid}
 use Rattle.rules.specs.Settings.{Settings, goodSettings}
-use Rattle.rules.specs.Table.{Record, Table, isBinding, area, mayStand, live, inPlace, giveUp, current, goodExcept, goodRecord, sound}
+use Rattle.rules.specs.Table.{Record, Table, isBinding, area, mayStand, inPlace, giveUp, goodExcept, goodRecord, sound}
 use Rattle.rules.specs.Choose.{hits, free, choose}
 use Rattle.rules.specs.Box.{binding, leaseFor, bind, longer, extend, isFreed, hintOf, noBinding, success, leaves, Asked, serveSolicit, serveRequest, serveRenew, serveRebind, serveRelease, serve}
 use Rattle.rules.specs.declared.Kind.{Kind}

@@ -2,17 +2,17 @@
 --   ToldListed, ToldIa, -told    the numbers of an IA Prefix and of an IA_PD fit; what is read of any list
 --   GoodAt, good-options         an option that is good and lies inside; each option of a good area
 --   -fine                        what is read of a well-formed message, and what the box repeats of it
-use mathlib.Core.Path.{_≡_, refl, ap, sym, _∙_, subst}
+use mathlib.Core.Path.{_≡_, refl, sym, _∙_, subst}
 use mathlib.Core.Bool.{Bool, true, false, cond, not, _&&_}
 use mathlib.Core.List.{List, map}
-use Prim.Native.Nat.{ℕ, zero, suc, _+_, _-_, _*_, _%_, _^_, _≤_, _<_}
+use Prim.Native.Nat.{ℕ, zero, suc, _+_, _-_, _*_, _^_, _≤_, _<_}
 use native.Mathlib.Omega.{arith}
 use borrow.Author.Tests.{eqb-true, lt-ltb, ltb-true}
 use lib.Dec.{eqb, leb, ltb}
 use lib.ListN.{length, getD}
 use lib.Pow.{pow-pos}
-use Rattle.rules.specs.Words.{consIf, keep, part, num, numAt}
-use Rattle.rules.specs.Prefix.{Prefix, prefix, fits, samePrefix, bytesFor, pad, contentOk, leaseEncodable}
+use Rattle.rules.specs.Words.{consIf, keep, part, numAt}
+use Rattle.rules.specs.Prefix.{Prefix, prefix, fits, samePrefix, bytesFor, contentOk, leaseEncodable}
 use Rattle.rules.specs.Options.{stepAt, grow, walk, areaOf, andThen, wants, scan, options}
 use Rattle.rules.specs.Options.{excludeOk, inPrefix, checkPrefix, inPd, checkPd, inTop, own, check, isGood}
 use Rattle.rules.specs.Message.{Listed, Ia, Message, exceptAt, listedAt, iaAt, top, read, wellFormed}

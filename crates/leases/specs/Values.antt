@@ -2,7 +2,7 @@
 use Prim.Native.Nat.{ℕ, _*_, _^_}
 use mathlib.Core.Bool.{Bool}
 use Rattle.rules.specs.Prefix.{prefix}
-use Rattle.rules.specs.Clock.{Moment, Lifetime}
+use Rattle.rules.specs.Clock.{Lifetime}
 use Rattle.rules.specs.Identity.{Duid}
 use Rattle.rules.specs.Settings.{Settings}
 

@@ -1,7 +1,7 @@
 // Ended records dropped, in place.
 ghost use mathlib.Core.Path.{_≡_};
 ghost use mathlib.Core.Bool.{true, cond};
-ghost use Prim.Native.Nat.{_+_, _-_, _*_, _≤_, _<_, _^_};
+ghost use Prim.Native.Nat.{_+_, _-_, _*_, _≤_, _<_};
 ghost use lib.ListN.{length};
 ghost use Rattle.rules.specs.Words.{splice};
 ghost use Rattle.rules.specs.TableBytes.{tableSize, place, flag, rowAt, tableBytes, tableOf, soundBytes};

@@ -3,7 +3,7 @@ use mathlib.Core.Path.{_≡_}
 use Prim.Native.Nat.{ℕ, _≤_, _<_}
 use mathlib.Core.Bool.{Bool, true, false, cond}
 use mathlib.Core.List.{List, [], map}
-use Rattle.rules.specs.Prefix.{Prefix, zeroAfter, Lease}
+use Rattle.rules.specs.Prefix.{zeroAfter, Lease}
 use Rattle.rules.specs.Identity.{Duid, Identity, identity}
 use Rattle.rules.specs.Message.{Listed}
 use Rattle.rules.specs.Table.{Record}

@@ -4,7 +4,7 @@
 --   answerTo, act        the answer as a value; what a message does that isn't refused
 --   boxTests             the refusals in their order
 --   boxStart, boxHandle, boxLive   the operations
-use Prim.Native.Nat.{ℕ, _+_, _-_, _*_, _/_, _^_}
+use Prim.Native.Nat.{ℕ, _+_, _*_, _/_}
 use mathlib.Core.Bool.{Bool, true, false, cond, not, _&&_}
 use mathlib.Core.List.{List, [], _∷_, _++_, map}
 use mathlib.Core.Option.{Option, none, some}

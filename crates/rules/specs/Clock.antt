@@ -1,7 +1,7 @@
 -- Moments and lifetimes: "Seconds remaining (a lifetime) and moments of the clock (an end) are kept apart"
 use Prim.Native.Nat.{ℕ, _+_, _-_, _^_, max}
 use mathlib.Core.Bool.{Bool, cond, _||_}
-use lib.Dec.{eqb, leb, ltb}
+use lib.Dec.{eqb, ltb}
 
 abbrev pub Moment : Type 0
 Moment = ℕ

@@ -1,6 +1,6 @@
 -- The operations on lent arrays: for each, the word that it returns and every lent byte afterwards.
 --   The word is the refusal's number times 65,536, plus the length of what was written: one of the two is 0.
-use Prim.Native.Nat.{ℕ, _+_, _*_}
+use Prim.Native.Nat.{ℕ, _*_}
 use mathlib.Core.Bool.{Bool, cond, not}
 use mathlib.Core.List.{List, [], _∷_}
 use mathlib.Core.Option.{Option, none, some}

@@ -3,7 +3,7 @@
 --   scan, check            the first bad place of an area, for each level: the message, an IA_PD, an IA Prefix
 --   options, nth, content  the options of one code, in order; the k-th; the stretch of the message that is its content
 --   option, Item, printed  the bytes of an option; options by code and content; their bytes
-use Prim.Native.Nat.{ℕ, zero, suc, _+_, _-_, _*_, _%_}
+use Prim.Native.Nat.{ℕ, zero, suc, _+_, _-_, _%_}
 use mathlib.Core.Bool.{Bool, true, false, cond, _&&_}
 use mathlib.Core.List.{List, [], _∷_, _++_}
 use lib.Dec.{eqb, leb, ltb}

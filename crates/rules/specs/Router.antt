@@ -7,15 +7,15 @@
 --   routerStart, routerSend, routerResend, routerAbandon, routerReceive   the operations
 use Prim.Native.Nat.{ℕ, _+_, _-_, _%_, _^_}
 use mathlib.Core.Bool.{Bool, true, false, cond, not, _&&_, _||_}
-use mathlib.Core.List.{List, [], _∷_, _++_, map}
+use mathlib.Core.List.{List, [], _∷_}
 use mathlib.Core.Option.{Option, none, some}
 use lib.Dec.{eqb, leb, ltb}
 use lib.ListN.{length, getD}
 use Rattle.rules.specs.Words.{all, any, first, sameBytes}
 use Rattle.rules.specs.Refusals.{Res, done, unless, badTime, littleRoom, wrongSize}
-use Rattle.rules.specs.Prefix.{Prefix, prefix, zeroAfter, Lease, lease, leaseEncodable}
+use Rattle.rules.specs.Prefix.{prefix, zeroAfter, Lease, lease, leaseEncodable}
 use Rattle.rules.specs.Message.{Listed, Ia, Message, read, wellFormed, print}
-use Rattle.rules.specs.Clock.{Moment, Lifetime, plus, goodEnd}
+use Rattle.rules.specs.Clock.{Moment, plus, goodEnd}
 use Rattle.rules.specs.Identity.{Duid, Identity, goodDuid, goodIdentity, typeOf, answerType, isRelease, rowOf, stands}
 use Rattle.rules.specs.Box.{startTests, iaOf}
 use Rattle.rules.specs.declared.Kind.{Kind}

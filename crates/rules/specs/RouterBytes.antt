@@ -4,9 +4,9 @@
 --   the state, 384 bytes: last time 8, start 8, latest beginning 8, last sending of a Release 8, next number 4, wanted length 1,
 --     IAID 4, DUID length 1, DUID 130, server's DUID length 1 (0: none), server's DUID 130, held 1 (0 or 1), the hold 42,
 --     open exchange 1 (its message type, 0: none), the delegation that it sends 34, 3 that are zero
-use Prim.Native.Nat.{ℕ, _+_, _-_}
-use mathlib.Core.Bool.{Bool, true, false, cond, not, _&&_}
-use mathlib.Core.List.{List, [], _∷_, _++_}
+use Prim.Native.Nat.{ℕ, _+_}
+use mathlib.Core.Bool.{Bool, cond, _&&_}
+use mathlib.Core.List.{List, _∷_, _++_}
 use mathlib.Core.Option.{Option, none, some}
 use lib.Dec.{eqb}
 use lib.ListN.{length, replicate}

@@ -1,7 +1,7 @@
 -- Settings of the box.
-use Prim.Native.Nat.{ℕ, _^_}
+use Prim.Native.Nat.{ℕ}
 use mathlib.Core.Bool.{Bool, _&&_}
-use lib.Dec.{leb, ltb}
+use lib.Dec.{leb}
 use Rattle.rules.specs.Prefix.{Prefix, fits, zeroAfter}
 use Rattle.rules.specs.Clock.{Lifetime, forEver}
 use Rattle.rules.specs.Identity.{Duid, goodDuid}

@@ -10,7 +10,7 @@ use mathlib.Core.Option.{Option, none, some}
 use lib.Dec.{leb, ltb}
 use lib.ListN.{length}
 use Rattle.rules.specs.Words.{all, noTwo}
-use Rattle.rules.specs.Prefix.{Prefix, zeroAfter, fits, samePrefix, overlap, inside, last64, Lease}
+use Rattle.rules.specs.Prefix.{Prefix, zeroAfter, samePrefix, overlap, inside, last64, Lease}
 use Rattle.rules.specs.Clock.{Moment, goodEnd}
 use Rattle.rules.specs.Identity.{Identity, goodIdentity, sameIdentity}
 use Rattle.rules.specs.Settings.{Settings, goodSettings}

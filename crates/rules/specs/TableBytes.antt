@@ -3,9 +3,9 @@
 --   the header, 176 bytes: last time 8, number of records 2, upper half of the pool 8, P 1, S 1, D 1, exclusion 1 (0 or 1),
 --     preferred 4, valid 4, DUID length 1, DUID 130, 15 that are zero
 --   the table, 39,344 bytes: the header, the records in order, zeros
-use Prim.Native.Nat.{ℕ, _+_, _-_, _*_, _/_, _^_}
-use mathlib.Core.Bool.{Bool, true, false, cond, not, _&&_}
-use mathlib.Core.List.{List, [], _∷_, _++_, map}
+use Prim.Native.Nat.{ℕ, _+_, _*_, _/_, _^_}
+use mathlib.Core.Bool.{Bool, true, false, not, _&&_}
+use mathlib.Core.List.{List, _++_, map}
 use mathlib.Core.Option.{Option, none, some}
 use lib.Dec.{eqb}
 use lib.ListN.{length, replicate}

@@ -7,7 +7,7 @@ use mathlib.Core.Path.{_≡_}
 use mathlib.Core.Bool.{cond}
 use mathlib.Core.List.{List, [], _∷_}
 use mathlib.Core.Option.{Option, none, some}
-use Rattle.rules.specs.Refusals.{Res, done}
+use Rattle.rules.specs.Refusals.{done}
 use Rattle.rules.specs.Clock.{Moment}
 use Rattle.rules.specs.Identity.{Identity, sameIdentity}
 use Rattle.rules.specs.Settings.{Settings}

@@ -1,9 +1,8 @@
-use mathlib.Core.Path.{_≡_, refl, sym, ap, _∙_}
-use Prim.Native.Nat.{ℕ, _+_, _-_, _*_, _≤_, _<_, _/_, _%_, _^_}
+use mathlib.Core.Path.{_≡_}
+use Prim.Native.Nat.{_-_, _*_, _≤_, _<_, _^_}
 use native.Mathlib.Omega.{arith}
 use borrow.Author.Needs.{needs}
-use lib.ListN.{length, getD}
-use Rattle.rules.specs.Words.{part, num, numAt}
+use Rattle.rules.specs.Words.{part, num}
 use Rattle.laws.specs.Numbers.{reading, read-start, read-small, read-lt, read-turn, read-end}
 use Rattle.cells.proofs.get.Statement.{statement}
 use Rattle.cells.proofs.get.Tie as tie

@@ -1,9 +1,7 @@
-use mathlib.Core.Path.{_≡_, refl, sym, ap, _∙_}
-use Prim.Native.Nat.{ℕ, _+_, _-_, _*_, _≤_, _<_, _/_, _%_, _^_}
-use native.Mathlib.Omega.{arith}
+use mathlib.Core.Path.{refl}
+use Prim.Native.Nat.{_-_}
 use borrow.Author.Needs.{needs}
 use Rattle.laws.specs.Parts.{copied}
-use Rattle.rules.specs.Words.{part, splice}
 use Rattle.cells.proofs.get16.Statement.{statement}
 use Rattle.cells.proofs.get16.Tie as tie
 

@@ -1,5 +1,4 @@
 -- A stretch of a table that is long enough.
-use denote.Ref.{now}
 use borrow.Author.Needs.{needs}
 use native.Mathlib.Omega.{arith}
 use Rattle.laws.specs.Change.{held}

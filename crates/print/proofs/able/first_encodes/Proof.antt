@@ -6,7 +6,7 @@ use borrow.Author.Needs.{needs}
 use lib.ListN.{length}
 use Rattle.rules.specs.Words.{all}
 use Rattle.rules.specs.Lone.{listedEncodes}
-use Rattle.values.specs.Values.{leaseEncodes, firstListed}
+use Rattle.values.specs.Values.{firstListed}
 use Rattle.print.proofs.Alone.{restEncodes, encodes-stop, encodes-go, encodes-end}
 use Rattle.print.proofs.able.first_encodes.Statement.{statement}
 use Rattle.print.proofs.able.first_encodes.Tie as tie
