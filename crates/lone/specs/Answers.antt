@@ -1,12 +1,15 @@
 -- The values of rules/Lone that the readers' answers stand for.
 --   loneRefusal       the number that a lone option is refused with, or 0
 --   idValue, ..       an answer as the refusal or the value that rules/Lone gives
+--   idFills, excludeRest, prefixRest    what else there is in an answer: a stretch's place, and what stands beside a refusal
 --   PdHead, pdHead    what is answered of an IA_PD
-use Prim.Native.Nat.{ℕ}
+use Prim.Native.Nat.{ℕ, _+_}
+use mathlib.Core.Path.{_≡_}
 use mathlib.Core.List.{List}
-use mathlib.Core.Bool.{Bool, cond}
+use mathlib.Core.Bool.{Bool, true, cond, _&&_}
+use mathlib.Core.Logic.{_⊎_}
 use lib.Dec.{eqb}
-use lib.ListN.{length}
+use lib.ListN.{length, replicate}
 use Rattle.rules.specs.Words.{part, num}
 use Rattle.rules.specs.Refusals.{Res, refuse, done, wrongSize}
 use Rattle.rules.specs.Prefix.{Prefix, prefix}
@@ -16,6 +19,7 @@ use Rattle.rules.specs.Lone.{alone, Summary}
 use Rattle.rules.specs.declared.Level.{Level}
 use Rattle.rules.specs.declared.Found.{Found}
 use Rattle.values.specs.Values.{listedOf}
+use Rattle.values.specs.declared.IaPrefix.{IaPrefix}
 use Rattle.lone.specs.declared.IdRead as id
 use Rattle.lone.specs.declared.IdRead.the-variants as id′
 use Rattle.lone.specs.declared.RequestRead as request
@@ -40,6 +44,11 @@ abbrev pub idValue : List ℕ → id.IdRead → Res (List ℕ)
 idValue m (id′.Refused n) = refuse n
 idValue m (id′.Duid s n) = done (part s n m)
 
+-- the stretch is all of the text after the header
+abbrev pub idFills : List ℕ → id.IdRead → Bool
+idFills m (id′.Refused n) = true
+idFills m (id′.Duid s n) = eqb s 4 && eqb (4 + n) (length m)
+
 abbrev pub requestValue : request.RequestRead → Res Bool
 requestValue (request′.Refused n) = refuse n
 requestValue (request′.Asks b) = done b
@@ -51,9 +60,22 @@ statusValue (status′.Code k) = done k
 abbrev pub excludeValue : ExcludeRead → Res Prefix
 excludeValue r = unlessNo (r .refusal) (prefix (num (r .bits)) (r .length))
 
+abbrev pub sixteenZeros : List ℕ
+sixteenZeros = replicate 16 0
+
+-- beside a refusal stand zeros
+abbrev pub excludeRest : ExcludeRead → Type 0
+excludeRest r = (r .refusal ≡ 0) ⊎ ((r .length ≡ 0) × (r .bits ≡ sixteenZeros))
+
 -- an IA Prefix, with its Status Codes beside it
 abbrev pub prefixValue : List ℕ → PrefixRead → Res Listed
 prefixValue ks r = unlessNo (r .refusal) (listedOf (r .prefix) ks)
+
+abbrev pub blank : IaPrefix
+blank = record { preferred = 0; valid = 0; length = 0; bits = sixteenZeros; cut = 0; out = sixteenZeros }
+
+abbrev pub prefixRest : PrefixRead → Type 0
+prefixRest r = (r .refusal ≡ 0) ⊎ (r .prefix ≡ blank)
 
 -- of an IA_PD: its numbers, how many IA Prefixes it has, and where in the text the first is
 pub record PdHead : Type 0 where

@@ -1,12 +1,13 @@
 // Public readers: a whole message, or one option that stands alone and fills its text. Each is total, and answers a value of its own.
 ghost use mathlib.Core.Path.{_≡_};
+ghost use mathlib.Core.Bool.{true};
 ghost use lib.ListN.{length};
 ghost use Rattle.rules.specs.Words.{num};
 ghost use Rattle.rules.specs.Refusals.{wrongSize};
 ghost use Rattle.rules.specs.Prefix.{prefix};
 ghost use Rattle.rules.specs.Message.{listedAt};
 ghost use Rattle.rules.specs.Lone.{alone, only, readId, readRequest, readStatus, readExclude, readPrefix, readPd, readMessage};
-ghost use Rattle.lone.specs.Answers.{loneRefusal, idValue, requestValue, statusValue, excludeValue, prefixValue, pdValue, pdHead, projected, messageValue};
+ghost use Rattle.lone.specs.Answers.{loneRefusal, idValue, idFills, requestValue, statusValue, excludeValue, excludeRest, prefixValue, prefixRest, pdValue, pdHead, projected, messageValue};
 use rules::Checked;
 use rules::Found;
 use rules::Level;
@@ -116,7 +117,7 @@ fn refusal(text: &[u8], l: Level, w: usize) -> u8
 // ---------------------------------------------------------------- lone options
 
 pub fn read_id(text: &[u8], code: usize) -> IdRead
-    ensures { λ r. ⌜ idValue (now (text .entry)) r ≡ readId code (now (text .entry)) ⌝ }
+    ensures { λ r. ⌜ (idValue (now (text .entry)) r ≡ readId code (now (text .entry))) × (idFills (now (text .entry)) r ≡ true) ⌝ }
 {
     let no = refusal(text, Level::Top, code);
     if no != 0 {
@@ -150,7 +151,7 @@ pub fn read_status(text: &[u8]) -> StatusRead
 
 // A PD Exclude inside the prefix p of length a.
 pub fn read_exclude(p: [u8; 16], a: usize, text: &[u8]) -> ExcludeRead
-    ensures { λ r. ⌜ excludeValue r ≡ readExclude (prefix (num p) a) (now (text .entry)) ⌝ }
+    ensures { λ r. ⌜ (excludeValue r ≡ readExclude (prefix (num p) a) (now (text .entry))) × excludeRest r ⌝ }
 {
     let no = refusal(text, Level::InPrefix(a), 67);
     if no != 0 {
@@ -171,7 +172,7 @@ pub fn read_exclude(p: [u8; 16], a: usize, text: &[u8]) -> ExcludeRead
 }
 
 pub fn read_prefix(text: &[u8]) -> PrefixRead
-    ensures { λ r. ⌜ prefixValue (listedAt (now (text .entry)) (only (now (text .entry))) .statuses) r ≡ readPrefix (now (text .entry)) ⌝ }
+    ensures { λ r. ⌜ (prefixValue (listedAt (now (text .entry)) (only (now (text .entry))) .statuses) r ≡ readPrefix (now (text .entry))) × prefixRest r ⌝ }
 {
     let no = refusal(text, Level::InPd, 26);
     if no != 0 {

@@ -1,39 +1,34 @@
 -- What the box tells: a message that it serves meets what Readings says of it.
-use Prim.Native.Nat.{ℕ, suc, _+_, _-_, _*_, _/_, _≤_, _<_, _%_, _^_, max}
+use Prim.Native.Nat.{ℕ, _+_, _-_, _≤_, _<_}
 use mathlib.Core.Path.{_≡_, refl, sym, _∙_, ap, subst}
-use mathlib.Core.Bool.{Bool, true, false, cond, not, _&&_, _||_, true≢false, false≢true}
-use mathlib.Core.List.{List, [], _∷_, _++_, map, List·Memᴰ, List·Memᴰ·head, List·Memᴰ·tail, List·Memᴰ·cases-cons, Memᴰ·append-left, Memᴰ·append-right}
+use mathlib.Core.Bool.{Bool, true, false, cond, not, true≢false}
+use mathlib.Core.List.{List, [], _∷_, map, List·Memᴰ, List·Memᴰ·head, List·Memᴰ·tail, List·Memᴰ·cases-cons, Memᴰ·append-left, Memᴰ·append-right}
 use mathlib.Core.Logic.{_⊎_, inl, inr}
 use mathlib.Core.Option.{Option, none, some, Option·none-ne-some}
 use native.Mathlib.Omega.{arith}
-use lib.Dec.{eqb, leb, ltb}
-use lib.ListN.{length, getD}
-use lib.Pow.{pow-pos}
-use borrow.Author.Tests.{eqb-true, eqb-false, leb-true, leb-false, le-leb, ltb-true, ltb-false, lt-ltb, not-true, not-false}
-use Rattle.rules.specs.Words.{all, any, keep, first, consIf}
-use Rattle.rules.specs.Refusals.{Res, done}
-use Rattle.rules.specs.Prefix.{Prefix, Lease, lease, leaseEncodable, fits, zeroAfter, samePrefix, last64}
-use Rattle.rules.specs.Message.{Listed, Ia, Message, read, wellFormed, print}
-use Rattle.rules.specs.Clock.{Moment, Lifetime, forEver, never, plus, extended}
-use Rattle.rules.specs.Identity.{Identity, identity, goodIdentity, kindOf, typeOf, answerType, served, isRelease}
+use lib.Dec.{eqb}
+use lib.ListN.{getD}
+use borrow.Author.Tests.{lt-ltb}
+use Rattle.rules.specs.Words.{keep, first, consIf}
+use Rattle.rules.specs.Refusals.{done}
+use Rattle.rules.specs.Prefix.{Prefix, Lease, lease}
+use Rattle.rules.specs.Message.{Listed, Message, read, print}
+use Rattle.rules.specs.Clock.{Moment, Lifetime, forEver, never, plus}
+use Rattle.rules.specs.Identity.{Identity, kindOf, answerType, served, isRelease}
 use Rattle.rules.specs.Settings.{Settings}
-use Rattle.rules.specs.Table.{Record, Table, isBinding, live, giveUp, current, goodExcept, goodRecord, sound}
+use Rattle.rules.specs.Table.{Record, Table, isBinding, live, giveUp, current}
 use Rattle.rules.specs.Choose.{choose}
-use Rattle.rules.specs.Box.{binding, leaseFor, bind, longer, extend, returned, others, gone, isFreed, hintOf, Verdict, offer, return, say, success, silence, noBinding, noPrefixAvail, Served as Outcome, leaves, Asked, serveSolicit, serveRequest, serveRenew, serveRebind, serveRelease, serve, t1For, t2For, offered, iaFor, answerTo, clientOf, iaOf, askedBy, serving, saying, tableAfter, answerAfter, boxAnswer, boxHandle}
+use Rattle.rules.specs.Box.{binding, leaseFor, bind, longer, extend, returned, gone, isFreed, hintOf, Verdict, offer, return, say, success, silence, noBinding, Served as Outcome, leaves, Asked, serveSolicit, serveRequest, serveRenew, serveRebind, serveRelease, serve, answerTo, clientOf, iaOf, askedBy, serving, saying, tableAfter, answerAfter, boxHandle}
 use Rattle.rules.specs.Router.{takes}
-use Rattle.rules.specs.World.{Box}
-use Rattle.rules.specs.Promises.{Bound}
 use Rattle.rules.specs.declared.Kind.{Kind}
 use Rattle.rules.specs.declared.Kind.the-variants.{Solicit, Request, Renew, Rebind, Release}
-use Rattle.laws.specs.Tests.{both, false-true}
-use Rattle.laws.specs.Round.{Fine, print-read}
-use Rattle.laws.specs.Told.{read-fine, ia-of-fine}
-use Rattle.laws.specs.Sent.{Sendable, GoodVerdict, answer-sent}
-use Rattle.laws.specs.Said.{Quiet, said, offer-taken}
+use Rattle.laws.specs.Tests.{false-true}
+use Rattle.laws.specs.Round.{print-read}
+use Rattle.laws.specs.Said.{offer-taken}
 use Rattle.laws.specs.Refusals.{two}
-use Rattle.laws.specs.Kinds.{answer-unserved, row-one-client, identity-path, identity-true}
-use Rattle.laws.specs.Sound.{Good, good-facts, sound-facts, give-up, touched}
-use Rattle.promises.specs.Readings.{Up, Down, hold, Binds, Served}
+use Rattle.laws.specs.Kinds.{answer-unserved, identity-path, identity-true}
+use Rattle.laws.specs.Sound.{give-up, touched}
+use Rattle.promises.specs.Readings.{Up, Down, Binds, Served}
 use Rattle.laws.specs.Accepted.{Accepted, accepted, sound-after, verdict-said, answer-sendable}
 
 -- ---------------------------------------------------------------- records that stay

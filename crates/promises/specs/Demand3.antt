@@ -1,8 +1,8 @@
 -- Demand 3: every prefix that a router alive still counts as held is bound to it in the box's table, with the same excluded prefix,
 -- until at least the moment the router stops. So no two routers hold overlapping prefixes.
-use Prim.Native.Nat.{ℕ, _≤_, _<_, _^_}
+use Prim.Native.Nat.{_^_}
 use mathlib.Core.Path.{_≡_, refl, sym, _∙_, ap, subst}
-use mathlib.Core.Bool.{Bool, true, false, not, _&&_}
+use mathlib.Core.Bool.{Bool, true, false, not}
 use mathlib.Core.List.{List, [], _∷_, List·Memᴰ, List·Memᴰ·cases-cons}
 use mathlib.Core.Logic.{_⊎_, inl, inr}
 use mathlib.Core.Option.{some}
@@ -20,7 +20,7 @@ use Rattle.rules.specs.Box.{startTests, boxStart}
 use Rattle.rules.specs.World.{Box}
 use Rattle.rules.specs.Promises.{Bound, Demand3, Apart}
 use Rattle.rules.specs.Router.{Hold}
-use Rattle.laws.specs.Tests.{both, neither, false-true}
+use Rattle.laws.specs.Tests.{both, neither}
 use Rattle.laws.specs.Refusals.{unless-done, one}
 use Rattle.laws.specs.Prefix.{overlap-sym}
 use Rattle.laws.specs.Sound.{sound-facts, sound-made}

@@ -1,24 +1,23 @@
 -- Demand 2's "exactly when": a new asker hears NoPrefixAvail exactly when no /60 in the pool is free or the table is full.
 use Prim.Native.Nat.{ℕ, _≤_}
 use mathlib.Core.Path.{_≡_, refl, sym, _∙_, ap, subst}
-use mathlib.Core.Bool.{Bool, true, false, cond, false≢true}
-use mathlib.Core.List.{List, []}
+use mathlib.Core.Bool.{Bool, true, false, false≢true}
+use mathlib.Core.List.{List}
 use mathlib.Core.Logic.{_⊎_, inl, inr, _↔_}
 use mathlib.Core.Option.{Option, none, some}
 use lib.ListN.{length}
-use Rattle.rules.specs.Refusals.{done}
 use Rattle.rules.specs.Prefix.{Prefix, prefix, zeroAfter, inside}
-use Rattle.rules.specs.Message.{Ia, Message, read, print}
+use Rattle.rules.specs.Message.{Message, read, print}
 use Rattle.rules.specs.Clock.{Moment}
 use Rattle.rules.specs.Identity.{kindOf, isRelease}
 use Rattle.rules.specs.Settings.{Settings}
 use Rattle.rules.specs.Table.{Record, Table, current, mostRecords}
 use Rattle.rules.specs.Choose.{free, choose}
-use Rattle.rules.specs.Box.{binding, hintOf, Verdict, Asked, serveSolicit, serveRequest, serve, iaFor, answerTo, askedBy, iaOf, serving, saying, answerAfter, boxHandle}
+use Rattle.rules.specs.Box.{binding, hintOf, Verdict, Asked, serveSolicit, serveRequest, serve, iaFor, answerTo, askedBy, iaOf, serving, answerAfter}
 use Rattle.rules.specs.Router.{noPrefix}
 use Rattle.rules.specs.Promises.{ExactlyWhen, Free60, Asks}
 use Rattle.rules.specs.declared.Kind.{Kind}
-use Rattle.rules.specs.declared.Kind.the-variants.{Solicit, Request, Renew, Rebind, Release}
+use Rattle.rules.specs.declared.Kind.the-variants.{Solicit, Request}
 use Rattle.laws.specs.Refusals.{two}
 use Rattle.laws.specs.Choose.{Place, choose-none, none-chosen}
 use Rattle.laws.specs.Sound.{good-facts, sound-facts, sound-aligned}

@@ -6,3 +6,7 @@ pub mod Boxes
 pub mod Demand3
 pub mod ExactlyWhen
 pub mod Lent
+pub mod Play
+pub mod Played
+pub mod Premises
+pub mod Accident

@@ -2,18 +2,17 @@
 --   Up, Down          how the box reads a message, and how a router reads a Reply
 --   Held, Open, Busy  what a router holds, its open exchange, and whether it holds or may come to hold
 --   Began, Resent, Moves, Got, Fresh, Served    what a step that isn't refused tells, read backwards from what it left
-use Prim.Native.Nat.{ℕ, _+_, _≤_, _<_, _%_, _^_}
+use Prim.Native.Nat.{ℕ, _+_, _≤_, _<_, _^_}
 use mathlib.Core.Path.{_≡_}
 use mathlib.Core.Bool.{Bool, true, false}
 use mathlib.Core.List.{List}
 use mathlib.Core.Logic.{_⊎_}
-use mathlib.Core.Option.{Option, none, some}
+use mathlib.Core.Option.{none, some}
 use Rattle.rules.specs.Words.{first}
 use Rattle.rules.specs.Prefix.{Lease}
 use Rattle.rules.specs.Message.{Listed, read}
 use Rattle.rules.specs.Clock.{Moment, Lifetime, plus}
 use Rattle.rules.specs.Identity.{Identity, identity, served, kindOf, isRelease}
-use Rattle.rules.specs.Settings.{Settings}
 use Rattle.rules.specs.Table.{Table, sound}
 use Rattle.rules.specs.Box.{clientOf, iaOf}
 use Rattle.rules.specs.Router.{Hold, Exchange, Router, numberBefore, numberAfter, takes}

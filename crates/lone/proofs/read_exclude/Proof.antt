@@ -1,5 +1,7 @@
 -- The excluded prefix is what the content unpacks to.
 use Prim.Native.Nat.{_-_}
+use mathlib.Core.Path.{refl}
+use mathlib.Core.Logic.{inl, inr}
 use native.Mathlib.Omega.{arith}
 use lib.ListN.{getD, length}
 use denote.Ref.{now}
@@ -23,7 +25,8 @@ refusal-requires c κs = search needs
 
 returns : tie.Need-returns
 unfolding readExclude
-returns c = let a = c .before .before .before .args in simp (ne-eqb _ _ (c .if1 .taken)) (refused (InPrefix (a .a)) 67 (now (a .text)) (c .before .refusal .ensures) (λ t. unpacked (prefix (num (a .p)) (a .a)) (getD t 4 0) (numAt t 5 (length t - 5))) (c .if1 .taken))
+returns c = let a = c .before .before .before .args in
+    (simp (ne-eqb _ _ (c .if1 .taken)) (refused (InPrefix (a .a)) 67 (now (a .text)) (c .before .refusal .ensures) (λ t. unpacked (prefix (num (a .p)) (a .a)) (getD t 4 0) (numAt t 5 (length t - 5))) (c .if1 .taken)), inr (refl, refl))
 
 sub-cut-at : tie.Need-sub-cut-at
 sub-cut-at c = omega (arith, one c)
@@ -33,8 +36,11 @@ cut-at-requires c κs = let a = c .before .before .before .args in (omega (arith
 
 returns-2 : tie.Need-returns-2
 unfolding readExclude
-returns-2 c = let a = c .before .before .before .before .before .args in given (InPrefix (a .a)) 67 (now (a .text)) (c .before .before .before .refusal .ensures) (λ t. unpacked (prefix (num (a .p)) (a .a)) (getD t 4 0) (numAt t 5 (length t - 5)))
-    (c .before .before .if1 .left) (exclude-read (now (a .text)) (prefix (num (a .p)) (a .a)) _ _ (c .before .cut-at .ensures))
+returns-2 c = let a = c .before .before .before .before .before .args in (
+  given (InPrefix (a .a)) 67 (now (a .text)) (c .before .before .before .refusal .ensures) (λ t. unpacked (prefix (num (a .p)) (a .a)) (getD t 4 0) (numAt t 5 (length t - 5)))
+      (c .before .before .if1 .left) (exclude-read (now (a .text)) (prefix (num (a .p)) (a .a)) _ _ (c .before .cut-at .ensures)),
+  inl refl,
+)
 
 pub read-exclude-spec : {M : Type 1} → statement M
 read-exclude-spec =

@@ -1,5 +1,7 @@
 -- The IA Prefix is read at the place of its content.
 use Prim.Native.Nat.{_-_}
+use mathlib.Core.Path.{refl}
+use mathlib.Core.Logic.{inl, inr}
 use native.Mathlib.Omega.{arith}
 use lib.ListN.{length}
 use denote.Ref.{now}
@@ -18,7 +20,7 @@ refusal-requires c κs = search needs
 
 returns : tie.Need-returns
 unfolding readPrefix
-returns c = simp (ne-eqb _ _ (c .if1 .taken)) (refused InPd 26 (now (c .before .before .before .args .text)) (c .before .refusal .ensures) (λ t. listedAt t (only t)) (c .if1 .taken))
+returns c = (simp (ne-eqb _ _ (c .if1 .taken)) (refused InPd 26 (now (c .before .before .before .args .text)) (c .before .refusal .ensures) (λ t. listedAt t (only t)) (c .if1 .taken)), inr refl)
 
 sub-prefix-at : tie.Need-sub-prefix-at
 sub-prefix-at c = omega (arith, alone-is InPd 26 (now (c .before .before .before .args .text)) (c .before .refusal .ensures) (c .if1 .left))
@@ -28,7 +30,7 @@ prefix-at-requires c κs = let s = alone-is InPd 26 (now (c .before .before .bef
 
 returns-2 : tie.Need-returns-2
 unfolding readPrefix
-returns-2 c = given InPd 26 (now (c .before .before .before .before .args .text)) (c .before .before .refusal .ensures) (λ t. listedAt t (only t)) (c .before .if1 .left) (c .prefix-at .ensures)
+returns-2 c = (given InPd 26 (now (c .before .before .before .before .args .text)) (c .before .before .refusal .ensures) (λ t. listedAt t (only t)) (c .before .if1 .left) (c .prefix-at .ensures), inl refl)
 
 pub read-prefix-spec : {M : Type 1} → statement M
 read-prefix-spec =
