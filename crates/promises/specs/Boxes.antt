@@ -287,6 +287,7 @@ module _ {T : Table} {n : Moment} {m : List ℕ} {room : ℕ} (a : Accepted T n 
     keeps = keeps;
     gives = gives;
     echoes = λ i x c w d. let g = given i x c w d in (isRelease (kindOf (v .kind)), up (g .asker) (g .number));
+    lasting = λ i x c w d. given i x c w d .lasting;
     mute = mute;
   }
     where

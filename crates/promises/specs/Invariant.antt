@@ -79,12 +79,17 @@ pub record Ok (n : Moment) (B : Box) (S : Sent) (i : Identity) (r : Router) : Ty
   pub granted : {s : ℕ} {m : List ℕ} {c : Lease} {v : Lifetime} → Open r false → In s m S → Down m i (numberBefore (r .next)) c v → n ≤ s + 30
       → n < plus (r .began) v → Binds B i c (plus (r .began) v)
 
+-- the valid lifetime of the box that has started: it is the same in every Reply
+abbrev pub Lasts : Box → Lifetime → Type 0
+Lasts B v = (T : Table) × (B ≡ some T) × (v ≡ T .settings .valid)
+
 -- of the world
 pub record Inv (n : Moment) (B : Box) (A : Alive) (S : Sent) : Type 0 where
   pub sound-table : (T : Table) → B ≡ some T → sound T ≡ true
   pub soon : {s : ℕ} {m : List ℕ} → In s m S → s ≤ n
   pub echoed : {s x : ℕ} {m : List ℕ} {i : Identity} {c : Lease} {v : Lifetime} → In s m S → Down m i x c v
       → (s′ : ℕ) × (m′ : List ℕ) × (b : Bool) × In s′ m′ S × Up m′ i x b × (s ≤ s′ + 30)
+  pub lasting : {s x : ℕ} {m : List ℕ} {i : Identity} {c : Lease} {v : Lifetime} → In s m S → Down m i x c v → Lasts B v
   pub ok : (i : Identity) (r : Router) → A i ≡ some r → Ok n B S i r
 
 -- ---------------------------------------------------------------- one router, step by step
@@ -244,6 +249,11 @@ echo-add : {n : Moment} {B : Box} {A : Alive} {S : Sent} {m m′ : List ℕ} {s 
 echo-add I f (last p q) d = rw p (later (f (rw q at d)))
 echo-add I f (older k) d = later (I .echoed k d)
 
+lasts-add : {n : Moment} {B : Box} {S : Sent} {m m′ : List ℕ} {s x : ℕ} {i : Identity} {c : Lease} {v : Lifetime}
+    → (Down m i x c v → Lasts B v) → (In s m′ S → Down m′ i x c v → Lasts B v) → In s m′ ((n, m) ∷ S) → Down m′ i x c v → Lasts B v
+lasts-add f g (last p q) d = f (rw q at d)
+lasts-add f g (older k) d = g k d
+
 -- a router changes, and sends a message
 inv-says : {n : Moment} {B : Box} {A : Alive} {S : Sent} {r′ : Router} {m : List ℕ} (i : Identity)
     → Inv n B A S → Ok n B S i r′
@@ -255,6 +265,7 @@ inv-says {A = A} i I o g f d = record {
   sound-table = I .sound-table;
   soon = soon-add I;
   echoed = echo-add I (λ h. absurd (d _ _ _ _ h));
+  lasting = lasts-add (λ h. absurd (d _ _ _ _ h)) (I .lasting);
   ok = put-all (Ok _ _ _) A i
       (ok-add o (f i) (λ x b u. g i x b u .1) (λ c v p h. absurd (d _ _ _ _ h)))
       (λ j q z p. ok-add (I .ok j q p) (λ x u. absurd (others z (g j x true u .0))) (λ x b u. absurd (others z (g j x b u .0)))
@@ -285,6 +296,7 @@ inv-moves {A = A} i I e v h = record {
   sound-table = I .sound-table;
   soon = I .soon;
   echoed = I .echoed;
+  lasting = I .lasting;
   ok = put-all (Ok _ _ _) A i (ok-moves (I .ok _ _ e) v h) (λ j q z p. I .ok j q p);
 }
 
@@ -299,10 +311,12 @@ taken {n} {s} {B} {S} {i} {r} {r′} {m} o v q l c e h g = go (v .holds c e h)
 -- the box serves a message
 inv-serves : {n s : ℕ} {T T′ : Table} {A : Alive} {S : Sent} {m a : List ℕ}
     → Inv n (some T) A S → In s m S → n ≤ s + 30 → Served T n m T′ a → Inv n (some T′) A ((n, a) ∷ S)
-inv-serves {s = s} {T′ = T′} {m = m} I q l v = record {
+inv-serves {s = s} {T = T} {T′ = T′} {m = m} I q l v = record {
   sound-table = λ t e. let w : T′ ≡ t = cc in rw (← w) (v .sound-after);
   soon = soon-add I;
   echoed = echo-add I (λ d. let h = v .echoes _ _ _ _ d in (s, m, h .0, q, h .1, l));
+  lasting = lasts-add (λ d. (T′, refl, v .lasting _ _ _ _ d ∙ ap (λ z. z .valid) (sym (v .settings-same))))
+      (λ k d. let h = I .lasting k d in let w : h .0 ≡ T = cc in (T′, refl, h .2 ∙ ap (λ (t : Table). t .settings .valid) w ∙ ap (λ z. z .valid) (sym (v .settings-same))));
   ok = λ i r p. let o = I .ok i r p in
       ok-add (ok-table o (λ b c e h g. v .keeps i c e h g (λ x u. no-release o b q l u)))
       (λ x u. absurd (v .mute _ _ _ u)) (λ x b u. absurd (v .mute _ _ _ u))
@@ -332,30 +346,35 @@ module _ (L : Steps) where
     sound-table = λ t e. absurd (Option·none-ne-some t e);
     soon = λ q. elim q [ ];
     echoed = λ q. elim q [ ];
+    lasting = λ q. elim q [ ];
     ok = λ i r e. absurd (Option·none-ne-some r e);
   }
   invariant (opens {T = T} R s e) = let I = invariant R in record {
     sound-table = λ t d. let w : T ≡ t = cc in rw (← w) (L .box-starts s _ T e);
     soon = I .soon;
     echoed = I .echoed;
+    lasting = λ q d. absurd (Option·none-ne-some _ (I .lasting q d .1));
     ok = λ i r p. ok-table (I .ok i r p) (λ b c d h g. absurd (unopened h));
   }
   invariant (tick R g) = let I = invariant R in record {
     sound-table = I .sound-table;
     soon = λ q. omega (arith, I .soon q);
     echoed = I .echoed;
+    lasting = I .lasting;
     ok = λ i r e. ok-tick g (I .ok i r e);
   }
   invariant (born {A = A} R i w z e) = let I = invariant R in record {
     sound-table = I .sound-table;
     soon = I .soon;
     echoed = I .echoed;
+    lasting = I .lasting;
     ok = put-all (Ok _ _ _) A i (ok-fresh I (L .starts i w _ _ e)) (λ j q d p. I .ok j q p);
   }
   invariant (dies {A = A} R i) = let I = invariant R in record {
     sound-table = I .sound-table;
     soon = I .soon;
     echoed = I .echoed;
+    lasting = I .lasting;
     ok = λ j q p. I .ok j q (drop-all A i j q p);
   }
   invariant (sends R i k room e h) = let I = invariant R in inv-sends i I e (L .begins k _ _ _ room _ (I .ok _ _ e .fit) h)

@@ -127,4 +127,5 @@ pub record Served (T : Table) (n : Moment) (m : List ℕ) (T′ : Table) (a : Li
   pub keeps : (i : Identity) (c : Lease) (e : Moment) → Binds (some T) i c e → n < e → ((x : ℕ) → Up m i x true → ⊥) → Binds (some T′) i c e
   pub gives : (i : Identity) (x : ℕ) (c : Lease) (v : Lifetime) (t : Moment) → Down a i x c v → t ≤ n → Binds (some T′) i c (plus t v)
   pub echoes : (i : Identity) (x : ℕ) (c : Lease) (v : Lifetime) → Down a i x c v → (b : Bool) × Up m i x b
+  pub lasting : (i : Identity) (x : ℕ) (c : Lease) (v : Lifetime) → Down a i x c v → v ≡ T .settings .valid
   pub mute : (i : Identity) (x : ℕ) (b : Bool) → Up a i x b → ⊥

@@ -16,7 +16,7 @@ use Rattle.rules.specs.Message.{Listed, Ia, read, wellFormed, print}
 use Rattle.rules.specs.Clock.{Moment, Lifetime, plus}
 use Rattle.rules.specs.Identity.{Duid, Identity, identity, typeOf, kindOf, answerType, isRelease, stands}
 use Rattle.rules.specs.Box.{startTests, clientOf, iaOf}
-use Rattle.rules.specs.Router.{Hold, Exchange, Router, known, goodAsker, soundRouter, numberBefore, query, holds, allows, isOpen, exchangeFor, begun, again, closed, goodIa, goodIas, mayOffer, fromServer, awaited, takes, taken, heldAfter, accept, routerStart, sendTests, routerSend, resendTests, openOf, routerResend, abandonTests, routerAbandon, receiveTests, routerReceive}
+use Rattle.rules.specs.Router.{Hold, Exchange, Router, goodAsker, soundRouter, numberBefore, query, holds, allows, isOpen, exchangeFor, begun, again, closed, goodIa, goodIas, mayOffer, fromServer, awaited, takes, taken, heldAfter, accept, routerStart, sendTests, routerSend, resendTests, openOf, routerResend, abandonTests, routerAbandon, receiveTests, routerReceive}
 use Rattle.rules.specs.declared.Kind.{Kind}
 use Rattle.rules.specs.declared.Kind.the-variants.{Solicit, Request, Renew, Rebind, Release}
 use Rattle.laws.specs.Tests.{both, neither}
