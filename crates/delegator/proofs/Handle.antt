@@ -1,11 +1,11 @@
 -- A message handled: what the judgement's number says, and what serving leaves of the table without ended records.
-use mathlib.Core.Path.{_≡_, refl, sym, ap, _∙_, subst}
-use mathlib.Core.Bool.{Bool, true, false, not, _&&_, _||_}
+use mathlib.Core.Path.{_≡_, refl, sym, ap, _∙_}
+use mathlib.Core.Bool.{Bool, true, false, not}
 use mathlib.Core.List.{List, [], _∷_}
-use Prim.Native.Nat.{ℕ, _*_, _≤_, _<_, _^_}
+use Prim.Native.Nat.{ℕ, _*_, _<_, _^_}
 use native.Mathlib.Omega.{arith}
-use borrow.Author.Tests.{not-true, not-false, ltb-false}
-use lib.Dec.{ltb, lit<}
+use borrow.Author.Tests.{not-false, ltb-false}
+use lib.Dec.{ltb}
 use lib.ListN.{length}
 use Rattle.rules.specs.Words.{splice}
 use Rattle.rules.specs.Refusals.{Res, done, unless, badTime, littleRoom, wrongSize}
@@ -15,17 +15,16 @@ use Rattle.rules.specs.Settings.{Settings}
 use Rattle.rules.specs.Table.{Table, sound}
 use Rattle.rules.specs.TableBytes.{settingsOf, tableBytes, tableOf, soundBytes}
 use Rattle.rules.specs.Box.{Verdict, offer, return, say, success, silence, serving, tableAfter, answerAfter, wrongPds, isSilence, boxTests, boxAnswer, boxHandle}
-use Rattle.rules.specs.Lent.{Ended, ended, settle, boxHandled}
+use Rattle.rules.specs.Lent.{ended, settle, boxHandled}
 use Rattle.laws.specs.Tests.{neither}
 use Rattle.laws.specs.Every.{Every}
-use Rattle.laws.specs.Refusals.{number, number-none, number-refused, unless-made}
+use Rattle.laws.specs.Refusals.{number, none-applies, number-refused, unless-made}
 use Rattle.laws.specs.Round.{FineListed}
 use Rattle.laws.specs.Sent.{GoodVerdict}
 use Rattle.laws.specs.Sound.{Good, good-facts, sound-facts, sound-made}
 use Rattle.laws.specs.Change.{tidied, onRecords, held, tidied-held}
 use Rattle.laws.specs.Accepted.{Accepted, accepted, verdict-said, answer-sendable}
 use Rattle.judge.specs.Judged.{judged}
-use Rattle.judge.specs.Understood.{Understood}
 use Rattle.said.specs.Said.{listedFor}
 use Rattle.act.specs.Serve.{serviceOn, replyOn, servedOn, Ready}
 use Rattle.delegator.proofs.Laws.{table-once}
@@ -64,19 +63,13 @@ module _ (b m : List ℕ) (now room : ℕ) where
   unfolding boxHandled boxHandle
   handled-is out e = rw e (ap (settle tableBytes b out) (table-once b rest reply))
 
-  positive : (n : ℕ) → 0 < n → n ≡ 0 → ⊥
-  positive n h z = omega arith
-
   module _ {n : ℕ} (e : n ≡ judged b now m room) where
     pub refused : (n ≡ 0 → ⊥) → (out : List ℕ) → length out ≡ room → ended (n * 65536) b out ≡ boxHandled b now m out
     refused h out l = sym (handled-is out l ∙ ap (settle tableBytes b out) (number-refused tests reply (e ∙ judged-is) h))
 
     module _ (z : n ≡ 0) where
       passed : Every (λ r. r .1 ≡ false) tests
-      passed =
-          number-none tests
-          (positive 9 (lit< tt), (positive 1 (lit< tt), (positive 2 (lit< tt), (positive 3 (lit< tt), (positive 4 (lit< tt), (positive 5 (lit< tt), (positive 6 (lit< tt), (positive 7 (lit< tt), (positive 8 (lit< tt), tt)))))))))
-          (sym (e ∙ judged-is) ∙ z)
+      passed = none-applies tests refl (e ∙ judged-is) z
 
       pub is-sound : soundBytes b ≡ true
       is-sound = not-false _ (passed .0)

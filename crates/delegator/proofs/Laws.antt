@@ -1,28 +1,28 @@
 -- The operations that are no message: what a start tests and leaves, and what is shown.
-use mathlib.Core.Path.{_≡_, refl, sym, ap, _∙_, subst}
-use mathlib.Core.Bool.{Bool, true, false, cond, not, _&&_, _||_}
+use mathlib.Core.Path.{_≡_, refl, sym, ap, _∙_}
+use mathlib.Core.Bool.{Bool, true, false, not, _&&_}
 use mathlib.Core.List.{List, [], _∷_, map}
 use mathlib.Core.Option.{Option, none, some}
-use Prim.Native.Nat.{ℕ, zero, suc, _+_, _-_, _*_, _/_, _%_, _^_, _≤_, _<_}
+use Prim.Native.Nat.{ℕ, zero, suc, _+_, _-_, _*_, _^_, _≤_, _<_}
 use native.Mathlib.Omega.{arith}
-use borrow.Author.Tests.{eqb-true, not-true, not-false, leb-true, le-leb, lt-leb, lt-ltb, le-ltb}
+use borrow.Author.Tests.{eqb-true, not-false, leb-true, le-leb, lt-leb, lt-ltb, le-ltb}
 use lib.Arith.{digits-lt}
 use lib.Dec.{eqb, leb, ltb}
 use native.Mathlib.Nat.{zero-add}
 use lib.ListN.{length, take, drop, getElem?}
-use lib.Pow.{high, low, pow-pos}
-use Rattle.rules.specs.Words.{keep, from, splice, part, numAt}
+use lib.Pow.{high, low}
+use Rattle.rules.specs.Words.{keep, from, splice, part}
 use Rattle.rules.specs.Refusals.{Res, unless, done, badTime}
 use Rattle.rules.specs.Prefix.{prefix, zeroAfter, fits}
 use Rattle.rules.specs.Clock.{forEver}
 use Rattle.rules.specs.Settings.{Settings, goodSettings}
 use Rattle.rules.specs.Table.{Record, live, sound}
-use Rattle.rules.specs.TableBytes.{recordSize, tableSize, place, recordBytes, tableBytes, rowAt, recordAt, countOf, tableOf, soundBytes}
+use Rattle.rules.specs.TableBytes.{recordSize, place, recordBytes, tableBytes, rowAt, recordAt, countOf, tableOf, soundBytes}
 use Rattle.rules.specs.Box.{boxStart, boxLive}
 use Rattle.rules.specs.Lent.{ended, asked, counted, recordText, boxStarted, boxCounted, boxShown}
 use Rattle.laws.specs.Tests.{both, both-made}
 use Rattle.laws.specs.Every.{Every}
-use Rattle.laws.specs.Refusals.{number-none, number-refused, unless-made, nine-once}
+use Rattle.laws.specs.Refusals.{none-applies, number-refused, unless-made, nine-once}
 use Rattle.laws.specs.Parts.{length-part}
 use Rattle.laws.specs.Halves.{zero-both}
 use Rattle.laws.specs.Represent.{table-rows}
@@ -134,7 +134,7 @@ module _ (b : List ℕ) (now : ℕ) {n : ℕ} (e : n ≡ byTable b now) where
   module _ (z : n ≡ 0) where
     passed : Every (λ r. r .1 ≡ false) (tableTests b now)
     unfolding byTable
-    passed = number-none (tableTests b now) ((λ z. absurd (omega arith)), ((λ z. absurd (omega arith)), tt)) (sym e ∙ z)
+    passed = none-applies (tableTests b now) refl e z
 
     pub live-held : Held b
     live-held = held b (not-false _ (passed .0))

@@ -77,68 +77,68 @@ pub extern "C" fn pd_router_start(
 ) -> u64
     ensures { λ r. ⌜ ended r (now (state .exit)) [] ≡ routerStarted (now (state .entry)) (identity (now (duid .entry)) iaid) wanted time ⌝ }
 {
-    sending::opening::start(state, duid, iaid, wanted, time)
+    requester::opening::start(state, duid, iaid, wanted, time)
 }
 
 #[no_mangle]
 pub extern "C" fn pd_router_solicit(state: &mut [u8; 384], time: u64, message: &mut [u8]) -> u64
     ensures { λ r. ⌜ ended r (now (state .exit)) (now (message .exit)) ≡ routerSent Solicit (now (state .entry)) time (now (message .entry)) ⌝ }
 {
-    sending::asking::solicit(state, time, message)
+    requester::asking::solicit(state, time, message)
 }
 
 #[no_mangle]
 pub extern "C" fn pd_router_request(state: &mut [u8; 384], time: u64, message: &mut [u8]) -> u64
     ensures { λ r. ⌜ ended r (now (state .exit)) (now (message .exit)) ≡ routerSent Request (now (state .entry)) time (now (message .entry)) ⌝ }
 {
-    sending::asking::request(state, time, message)
+    requester::asking::request(state, time, message)
 }
 
 #[no_mangle]
 pub extern "C" fn pd_router_renew(state: &mut [u8; 384], time: u64, message: &mut [u8]) -> u64
     ensures { λ r. ⌜ ended r (now (state .exit)) (now (message .exit)) ≡ routerSent Renew (now (state .entry)) time (now (message .entry)) ⌝ }
 {
-    sending::asking::renew(state, time, message)
+    requester::asking::renew(state, time, message)
 }
 
 #[no_mangle]
 pub extern "C" fn pd_router_rebind(state: &mut [u8; 384], time: u64, message: &mut [u8]) -> u64
     ensures { λ r. ⌜ ended r (now (state .exit)) (now (message .exit)) ≡ routerSent Rebind (now (state .entry)) time (now (message .entry)) ⌝ }
 {
-    sending::asking::rebind(state, time, message)
+    requester::asking::rebind(state, time, message)
 }
 
 #[no_mangle]
 pub extern "C" fn pd_router_release(state: &mut [u8; 384], time: u64, message: &mut [u8]) -> u64
     ensures { λ r. ⌜ ended r (now (state .exit)) (now (message .exit)) ≡ routerSent Release (now (state .entry)) time (now (message .entry)) ⌝ }
 {
-    sending::asking::release(state, time, message)
+    requester::asking::release(state, time, message)
 }
 
 #[no_mangle]
 pub extern "C" fn pd_router_resend(state: &mut [u8; 384], time: u64, message: &mut [u8]) -> u64
     ensures { λ r. ⌜ ended r (now (state .exit)) (now (message .exit)) ≡ routerResent (now (state .entry)) time (now (message .entry)) ⌝ }
 {
-    sending::asking::resend(state, time, message)
+    requester::asking::resend(state, time, message)
 }
 
 #[no_mangle]
 pub extern "C" fn pd_router_abandon(state: &mut [u8; 384], time: u64) -> u64
     ensures { λ r. ⌜ ended r (now (state .exit)) [] ≡ routerAbandoned (now (state .entry)) time ⌝ }
 {
-    sending::asking::abandon(state, time)
+    requester::asking::abandon(state, time)
 }
 
 #[no_mangle]
 pub extern "C" fn pd_router_receive(state: &mut [u8; 384], time: u64, message: &[u8]) -> u64
     ensures { λ r. ⌜ ended r (now (state .exit)) [] ≡ routerReceived (now (state .entry)) time (now (message .entry)) ⌝ }
 {
-    receiving::receive(state, time, message)
+    requester::hearing::receive(state, time, message)
 }
 
 #[no_mangle]
 pub extern "C" fn pd_router_held(state: &[u8; 384], time: u64, room: &mut [u8]) -> u64
     ensures { λ r. ⌜ ended r (now (state .entry)) (now (room .exit)) ≡ routerShown (now (state .entry)) time (now (room .entry)) ⌝ }
 {
-    sending::showing::held(state, time, room)
+    requester::showing::held(state, time, room)
 }

@@ -1,11 +1,11 @@
 -- The tests, one after the other, as code makes them.
 use mathlib.Core.Path.{_≡_, refl, sym, ap, _∙_}
 use mathlib.Core.Bool.{Bool, true, false, not, _||_}
-use mathlib.Core.List.{List, [], _∷_, _++_}
+use mathlib.Core.List.{List, _++_}
 use Prim.Native.Nat.{ℕ, _≤_, _<_, _^_}
 use native.Mathlib.Omega.{arith}
 use borrow.Author.Tests.{not-false, lt-ltb, le-ltb}
-use lib.Dec.{leb, ltb, lit<}
+use lib.Dec.{leb, ltb}
 use lib.ListN.{length, getD}
 use Rattle.rules.specs.Words.{numAt}
 use Rattle.rules.specs.Refusals.{badTime, wrongSize}
@@ -17,7 +17,7 @@ use Rattle.rules.specs.Box.{serve, serving, iaOf as askedIa, askedBy, wrongPds,
 use Rattle.rules.specs.declared.Kind.{Kind}
 use Rattle.laws.specs.Change.{held}
 use Rattle.laws.specs.Every.{Every}
-use Rattle.laws.specs.Refusals.{number, number-later, number-here, number-none}
+use Rattle.laws.specs.Refusals.{number, none-applies, number-here, number-later}
 use Rattle.values.specs.Values.{iaOf}
 use Rattle.values.specs.declared.Pd.{Pd}
 use Rattle.wire.specs.Client.{clientStretch}
@@ -110,12 +110,6 @@ over-is b m now d u e {k} h {c} g q =
 
 -- ---------------------------------------------------------------- the whole
 
-abbrev Counts : List (ℕ × Bool) → Type 0
-Counts ts = Every (λ r. r .0 ≡ 0 → ⊥) ts
-
-positive : (n : ℕ) → 0 < n → n ≡ 0 → ⊥
-positive n h z = omega arith
-
 module _ (b m : List ℕ) (now room : ℕ) where
   abbrev fs : List (ℕ × Bool)
   fs = formTests m
@@ -129,22 +123,19 @@ module _ (b m : List ℕ) (now room : ℕ) where
   module _ {x : ℕ} (t : x ≡ byTable b now) where
     pub judged-table : (x ≡ 0 → ⊥) → x ≡ judged b now m room
     unfolding judged byTable
-    judged-table h = t ∙ sym (number-here (tableTests b now) (roomTests room ++ (fs ++ (is ++ ss))) (λ z. h (t ∙ z)))
+    judged-table h = number-here (tableTests b now) (roomTests room ++ (fs ++ (is ++ ss))) t h
 
     module _ (z : x ≡ 0) where
-      table-counts : Counts (tableTests b now)
-      table-counts = (positive 9 (lit< tt), (positive 1 (lit< tt), tt))
-
       table-passed : Every (λ r. r .1 ≡ false) (tableTests b now)
       unfolding byTable
-      table-passed = number-none (tableTests b now) table-counts (sym t ∙ z)
+      table-passed = none-applies (tableTests b now) refl t z
 
       pub is-sound : soundBytes b ≡ true
       is-sound = not-false _ (table-passed .0)
 
       after-table : judged b now m room ≡ number (roomTests room ++ (fs ++ (is ++ ss)))
       unfolding judged byTable
-      after-table = number-later (tableTests b now) (roomTests room ++ (fs ++ (is ++ ss))) table-counts (sym t ∙ z)
+      after-table = number-later (tableTests b now) (roomTests room ++ (fs ++ (is ++ ss))) refl t z
 
       pub judged-2 : room < 512 → 2 ≡ judged b now m room
       judged-2 h = sym (after-table ∙ rw (lt-ltb room 512 h))
@@ -155,31 +146,25 @@ module _ (b m : List ℕ) (now room : ℕ) where
 
         pub judged-form : (y ≡ 0 → ⊥) → y ≡ judged b now m room
         unfolding byForm
-        judged-form h = f ∙ sym (after-room ∙ number-here fs (is ++ ss) (λ z. h (f ∙ z)))
+        judged-form h = number-here fs (is ++ ss) f h ∙ sym after-room
 
         module _ (fz : y ≡ 0) {w : ℕ} (i : w ≡ byIds b m) where
-          form-counts : Counts fs
-          form-counts = (positive 3 (lit< tt), (positive 4 (lit< tt), (positive 5 (lit< tt), tt)))
-
-          ids-counts : Counts is
-          ids-counts = (positive 6 (lit< tt), (positive 7 (lit< tt), tt))
-
           form-passed : Every (λ r. r .1 ≡ false) fs
           unfolding byForm
-          form-passed = number-none fs form-counts (sym f ∙ fz)
+          form-passed = none-applies fs refl f fz
 
           after-form : judged b now m room ≡ number (is ++ ss)
           unfolding byForm
-          after-form = after-room ∙ number-later fs (is ++ ss) form-counts (sym f ∙ fz)
+          after-form = after-room ∙ number-later fs (is ++ ss) refl f fz
 
           pub judged-ids : (w ≡ 0 → ⊥) → w ≡ judged b now m room
           unfolding byIds
-          judged-ids h = i ∙ sym (after-form ∙ number-here is ss (λ z. h (i ∙ z)))
+          judged-ids h = number-here is ss i h ∙ sym after-form
 
           module _ (iz : w ≡ 0) where
             ids-passed : Every (λ r. r .1 ≡ false) is
             unfolding byIds
-            ids-passed = number-none is ids-counts (sym i ∙ iz)
+            ids-passed = none-applies is refl i iz
 
             pub understood : Understood b m
             understood = record {
@@ -192,7 +177,7 @@ module _ (b m : List ℕ) (now room : ℕ) where
 
             after-ids : judged b now m room ≡ number ss
             unfolding byIds
-            after-ids = after-form ∙ number-later is ss ids-counts (sym i ∙ iz)
+            after-ids = after-form ∙ number-later is ss refl i iz
 
             pub judged-8 : {v : Bool} → v ≡ isSilence (serving (tableOf b) now (read m) .verdict) → v ≡ true → 8 ≡ judged b now m room
             judged-8 e h = sym (after-ids ∙ rw (← e, h))

@@ -7,9 +7,9 @@ use mathlib.Core.Bool.{true, false, not}
 use mathlib.Core.List.{List, [], _∷_, map}
 use Prim.Native.Nat.{ℕ, _≤_, _<_, _^_}
 use native.Mathlib.Omega.{arith}
-use lib.Dec.{eqb, leb, ltb}
+use lib.Dec.{eqb, leb}
 use lib.ListN.{length, getD}
-use borrow.Author.Tests.{leb-true, leb-false, ltb-false, lt-ltb, not-false}
+use borrow.Author.Tests.{leb-true, ltb-false, lt-ltb, not-false}
 use Rattle.rules.specs.Refusals.{Res, done, wrongSize}
 use Rattle.rules.specs.Message.{Message, iaAt, top, read, wellFormed}
 use Rattle.rules.specs.Options.{options}
@@ -20,9 +20,9 @@ use Rattle.rules.specs.Table.{Record, Table, live, current, sound}
 use Rattle.rules.specs.Box.{Asked, clientOf, iaOf, askedBy, serving, tableAfter, answerAfter, wrongPds, isSilence, boxTests, boxAnswer, boxHandle}
 use Rattle.rules.specs.declared.Found.{Found}
 use Rattle.rules.specs.declared.Found.the-variants.{At, Nothing}
-use Rattle.laws.specs.Tests.{both, both-made, neither}
+use Rattle.laws.specs.Tests.{both, both-made}
 use Rattle.laws.specs.Kinds.{row-one-client}
-use Rattle.laws.specs.Refusals.{unless-done}
+use Rattle.laws.specs.Refusals.{unless-done, in-time}
 use Rattle.laws.specs.Numbers.{numAt-fits}
 use Rattle.laws.specs.Round.{Fine as Told}
 use Rattle.laws.specs.Told.{read-fine, ia-of-fine}
@@ -50,11 +50,11 @@ unfolding boxHandle
 accepted {T} {T′} {now} {m} {a} {room} e =
     let p = unless-done (boxTests T now m (read m) room) e in
     let q = p .0 in
-    let t = neither (ltb now (T .last)) (leb (2 ^ 48) now) (q .1 .0) in (
+    let t = in-time (T .last) now (q .1 .0) in (
       record {
         sound-table = not-false _ (q .0);
-        late = ltb-false now (T .last) (t .0);
-        soon = leb-false (2 ^ 48) now (t .1);
+        late = t .0;
+        soon = t .1;
         roomy = ltb-false room 512 (q .1 .1 .0);
         sized = q .1 .1 .1 .0;
         kind = not-false _ (q .1 .1 .1 .1 .0);

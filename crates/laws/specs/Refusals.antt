@@ -1,14 +1,20 @@
 -- A table of refusals: nothing is refused exactly where every test fails; and what a result tells.
 --   number                    the number of the first test that applies, or 0: what code answers
---   number-later, -here       a table judged part by part
---   number-none, -refused     what a number says of the tests, and of the result
+--   none-applies              what the number 0 says of the tests
+--   number-here, -later       a table judged part by part
+--   number-refused            what another number says of the result
+--   in-time                   what the passed test of the time says
 --   nine-once                 the test of the lent bytes, and of what they represent
 use mathlib.Core.Path.{_≡_, refl, sym, ap, subst}
 use mathlib.Core.Bool.{Bool, true, false, cond, not}
 use mathlib.Core.List.{List, [], _∷_, _++_}
-use Prim.Native.Nat.{ℕ}
+use Prim.Native.Nat.{ℕ, _≤_, _<_, _^_}
 use native.Mathlib.Omega.{arith}
-use Rattle.rules.specs.Refusals.{Res, refuse, done, unless}
+use borrow.Author.Tests.{ltb-true, ltb-false, leb-false}
+use lib.Dec.{leb, ltb}
+use Rattle.rules.specs.Words.{all}
+use Rattle.rules.specs.Refusals.{Res, refuse, done, unless, badTime}
+use Rattle.laws.specs.Tests.{both, neither}
 use Rattle.laws.specs.Every.{Every}
 
 module _ {A : Type 0} where
@@ -40,32 +46,32 @@ abbrev pub number : List (ℕ × Bool) → ℕ
 number [] = 0
 number (r ∷ rs) = cond (r .1) (r .0) (number rs)
 
--- no test of the first part applies, or one does
-pub number-later : (ts us : List (ℕ × Bool)) → Every (λ r. r .0 ≡ 0 → ⊥) ts → number ts ≡ 0 → number (ts ++ us) ≡ number us
-number-later [] us p h = refl
-number-later (r ∷ ts) us p h = by (r .1) h (number-later ts us (p .1))
+-- of a table whose numbers are above 0: where the first that applies is 0, none applies
+pub none-applies : (ts : List (ℕ × Bool)) → all (λ r. ltb 0 (r .0)) ts ≡ true → {n : ℕ} → n ≡ number ts → n ≡ 0 → Every (λ r. r .1 ≡ false) ts
+none-applies [] p e z = tt
+none-applies (r ∷ ts) p {n} e z =
+    let q = both (ltb 0 (r .0)) (all (λ r. ltb 0 (r .0)) ts) p in
+    by (r .1) refl e (ltb-true 0 (r .0) (q .0)) (λ g. none-applies ts (q .1) g z)
   where
-    by : (b : Bool) → cond b (r .0) (number ts) ≡ 0 → (number ts ≡ 0 → number (ts ++ us) ≡ number us) → cond b (r .0) (number (ts ++ us)) ≡ number us
-    by true q g = absurd (p .0 q)
+    by : (b : Bool) → r .1 ≡ b → n ≡ cond b (r .0) (number ts) → 0 < r .0 → (n ≡ number ts → Every (λ r. r .1 ≡ false) ts) → (r .1 ≡ false) × Every (λ r. r .1 ≡ false) ts
+    by true f g l k = absurd (omega arith)
+    by false f g l k = (f, k g)
+
+-- a table in two parts: one test of the first applies, or none does
+pub number-here : (ts us : List (ℕ × Bool)) {n : ℕ} → n ≡ number ts → (n ≡ 0 → ⊥) → n ≡ number (ts ++ us)
+number-here [] us e h = absurd (h e)
+number-here (r ∷ ts) us {n} e h = by (r .1) e (λ q. number-here ts us q h)
+  where
+    by : (b : Bool) → n ≡ cond b (r .0) (number ts) → (n ≡ number ts → n ≡ number (ts ++ us)) → n ≡ cond b (r .0) (number (ts ++ us))
+    by true q g = q
     by false q g = g q
 
-pub number-here : (ts us : List (ℕ × Bool)) → (number ts ≡ 0 → ⊥) → number (ts ++ us) ≡ number ts
-number-here [] us h = absurd (h refl)
-number-here (r ∷ ts) us h = by (r .1) h (number-here ts us)
-  where
-    by : (b : Bool) → (cond b (r .0) (number ts) ≡ 0 → ⊥) → ((number ts ≡ 0 → ⊥) → number (ts ++ us) ≡ number ts)
-        → cond b (r .0) (number (ts ++ us)) ≡ cond b (r .0) (number ts)
-    by true q g = refl
-    by false q g = g q
+number-past : (ts us : List (ℕ × Bool)) → Every (λ r. r .1 ≡ false) ts → number (ts ++ us) ≡ number us
+number-past [] us h = refl
+number-past (r ∷ ts) us h = rw (h .0) (number-past ts us (h .1))
 
--- what the number says of the tests, and of the result
-pub number-none : (ts : List (ℕ × Bool)) → Every (λ r. r .0 ≡ 0 → ⊥) ts → number ts ≡ 0 → Every (λ r. r .1 ≡ false) ts
-number-none [] p h = tt
-number-none (r ∷ ts) p h = by (r .1) refl h (number-none ts (p .1))
-  where
-    by : (b : Bool) → r .1 ≡ b → cond b (r .0) (number ts) ≡ 0 → (number ts ≡ 0 → Every (λ r. r .1 ≡ false) ts) → (r .1 ≡ false) × Every (λ r. r .1 ≡ false) ts
-    by true e q g = absurd (p .0 q)
-    by false e q g = (e, g q)
+pub number-later : (ts us : List (ℕ × Bool)) → all (λ r. ltb 0 (r .0)) ts ≡ true → {n : ℕ} → n ≡ number ts → n ≡ 0 → number (ts ++ us) ≡ number us
+number-later ts us p e z = number-past ts us (none-applies ts p e z)
 
 pub number-refused : {A : Type 0} (ts : List (ℕ × Bool)) (x : Res A) {n : ℕ} → n ≡ number ts → (n ≡ 0 → ⊥) → unless ts x ≡ refuse n
 number-refused [] x e h = absurd (h e)
@@ -74,6 +80,11 @@ number-refused (r ∷ ts) x {n} e h = by (r .1) e (λ q. number-refused ts x q h
     by : (b : Bool) → n ≡ cond b (r .0) (number ts) → (n ≡ number ts → unless ts x ≡ refuse n) → cond b (refuse (r .0)) (unless ts x) ≡ refuse n
     by true q g = ap refuse (sym q)
     by false q g = g q
+
+-- ---------------------------------------------------------------- 1
+
+pub in-time : (last now : ℕ) → badTime last now ≡ false → (last ≤ now) × (now < 2 ^ 48)
+in-time last now h = let t = neither (ltb now last) (leb (2 ^ 48) now) h in (ltb-false now last (t .0), leb-false (2 ^ 48) now (t .1))
 
 -- ---------------------------------------------------------------- 9, once
 

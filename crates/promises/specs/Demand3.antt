@@ -21,7 +21,7 @@ use Rattle.rules.specs.World.{Box}
 use Rattle.rules.specs.Promises.{Bound, Demand3, Apart}
 use Rattle.rules.specs.Router.{Hold}
 use Rattle.laws.specs.Tests.{both, neither}
-use Rattle.laws.specs.Refusals.{unless-done, one}
+use Rattle.laws.specs.Refusals.{unless-done, in-time, one}
 use Rattle.laws.specs.Prefix.{overlap-sym}
 use Rattle.laws.specs.Sound.{sound-facts, sound-made}
 use Rattle.promises.specs.Invariant.{Steps, invariant}
@@ -35,9 +35,8 @@ box-starts : (s : Settings) (n : Moment) (T : Table) → boxStart s n ≡ done T
 unfolding boxStart
 box-starts s n T e =
     let a = unless-done (startTests (goodSettings s) n) e in
-    let t = neither (ltb n 0) (leb (2 ^ 48) n) (a .0 .1 .0) in
     one (λ t. sound t ≡ true) (a .1)
-    (sound-made _ (record { settings = not-false _ (a .0 .0); few = omega arith; good = refl; together = refl; time = leb-false (2 ^ 48) n (t .1) }))
+    (sound-made _ (record { settings = not-false _ (a .0 .0); few = omega arith; good = refl; together = refl; time = in-time 0 n (a .0 .1 .0) .1 }))
 
 pub steps : Steps
 steps = record { box-starts = box-starts; starts = starts; begins = begins; repeats = repeats; closes = closes; accepts = accepts; answers = answers }

@@ -20,7 +20,7 @@ use Rattle.rules.specs.Router.{Hold, Exchange, Router, goodAsker, soundRouter, 
 use Rattle.rules.specs.declared.Kind.{Kind}
 use Rattle.rules.specs.declared.Kind.the-variants.{Solicit, Request, Renew, Rebind, Release}
 use Rattle.laws.specs.Tests.{both, neither}
-use Rattle.laws.specs.Refusals.{unless-done, one, two}
+use Rattle.laws.specs.Refusals.{in-time, unless-done, one, two}
 use Rattle.laws.specs.Kinds.{type-kind, one-stands, bytes-true}
 use Rattle.laws.specs.RouterFields.{Sound, sound-facts}
 use Rattle.laws.specs.RouterKeeps.{moment, number-before, begun-sound, again-sound, open-some, query-able}
@@ -124,10 +124,10 @@ unfolding routerSend
 begins k r r′ n room m f e =
     let a = unless-done (sendTests k r n room) e in
     let p = a .0 in
-    let t = neither (ltb n (r .last)) (leb (2 ^ 48) n) (p .1 .0) in
+    let t = in-time (r .last) n (p .1 .0) in
     let s = neither (leb n (r .started + 60) || leb n (r .freed + 60)) (leb n (r .began)) (p .1 .1 .1 .1 .0) in
     let u = neither (leb n (r .started + 60)) (leb n (r .freed + 60)) (s .0) in
-    two (Began r n) (a .1) (begins-so k r n (not-false _ (p .0)) (ltb-false _ _ (t .0)) (leb-false _ _ (t .1)) (not-false _ (p .1 .1 .1 .1 .1 .0)) (leb-false _ _ (u .0)) (leb-false _ _ (u .1)) (leb-false _ _ (s .1)))
+    two (Began r n) (a .1) (begins-so k r n (not-false _ (p .0)) (t .0) (t .1) (not-false _ (p .1 .1 .1 .1 .1 .0)) (leb-false _ _ (u .0)) (leb-false _ _ (u .1)) (leb-false _ _ (s .1)))
 
 -- ---------------------------------------------------------------- the open exchange again
 
@@ -175,9 +175,9 @@ unfolding routerResend
 repeats r r′ n room m f e =
     let a = unless-done (resendTests r n room) e in
     let p = a .0 in
-    let t = neither (ltb n (r .last)) (leb (2 ^ 48) n) (p .1 .0) in
+    let t = in-time (r .last) n (p .1 .0) in
     let o = not-false _ (p .1 .1 .1 .0) in
-    two (Resent r n) (a .1) (repeats-so r n (openOf (r .exchange)) (open-some (r .exchange) o) f (not-false _ (p .0)) (ltb-false _ _ (t .0)) (leb-false _ _ (t .1)))
+    two (Resent r n) (a .1) (repeats-so r n (openOf (r .exchange)) (open-some (r .exchange) o) f (not-false _ (p .0)) (t .0) (t .1))
 
 -- ---------------------------------------------------------------- the exchange closed
 

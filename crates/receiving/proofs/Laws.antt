@@ -17,8 +17,8 @@ use Rattle.rules.specs.Clock.{plus}
 use Rattle.rules.specs.Message.{Listed, listedAt, iaAt, top, read}
 use Rattle.rules.specs.Identity.{Duid, goodDuid, kindOf, typeOf, isRelease, stands}
 use Rattle.rules.specs.Box.{iaOf}
-use Rattle.rules.specs.Router.{Hold, Router, soundRouter, goodIa, goodIas, awaited, takes, heldUntil, taken, heldAfter, serverAfter, closed, accept, openOf, routerReceive}
-use Rattle.rules.specs.RouterBytes.{heldBytes, routerBytes, routerOf, soundRouterBytes}
+use Rattle.rules.specs.Router.{Hold, Router, goodIa, goodIas, awaited, takes, heldUntil, taken, heldAfter, serverAfter, closed, accept, openOf, routerReceive}
+use Rattle.rules.specs.RouterBytes.{heldBytes, routerBytes, routerOf}
 use Rattle.rules.specs.Lent.{Ended, ended, settle, noText, routerReceived}
 use Rattle.rules.specs.declared.Kind.{Kind}
 use Rattle.rules.specs.declared.Kind.the-variants.{Solicit, Request, Renew, Rebind, Release}
@@ -26,7 +26,7 @@ use Rattle.rules.specs.declared.Checked.the-variants.{Good}
 use Rattle.rules.specs.declared.Found.{Found}
 use Rattle.rules.specs.declared.Found.the-variants.{At, Nothing}
 use Rattle.laws.specs.Tests.{both, neither, false-true}
-use Rattle.laws.specs.Refusals.{number, number-none, number-refused, unless-made, nine-once}
+use Rattle.laws.specs.Refusals.{none-applies, number-refused, unless-made}
 use Rattle.laws.specs.Every.{Every}
 use Rattle.laws.specs.Kinds.{one-stands}
 use Rattle.laws.specs.Formed.{PdFormed, PrefixFormed, formed-prefix, listed-place, ia-place}
@@ -39,46 +39,22 @@ use Rattle.values.specs.Values.{exceptOf, leaseOf, leaseEncodes, listedOf}
 use Rattle.values.specs.declared.IaPrefix.{IaPrefix}
 use Rattle.heard.specs.Heard.{onlyOf}
 use Rattle.heard.specs.Facts.{only-at, only-nothing}
+use Rattle.state.specs.Judged.{byState}
+use Rattle.state.specs.Facts.{state-here, state-later, router-once}
 use Rattle.awaited.specs.Facts.{Awaited, awaited-facts, exchange-is, openAs, kind-type}
-use Rattle.receiving.specs.Received.{tests, restTests, judged, Accepted, ListedIn, firstFound, takenIn, serverTold}
+use Rattle.receiving.specs.Received.{awaitedTests, tests, judged, Accepted, ListedIn, firstFound, takenIn, serverTold}
 
 -- ---------------------------------------------------------------- 9, 1, 14
 
-module _ (b m : List ℕ) (now : ℕ) where
-  pub judged-long : (length b ≡ 384 → ⊥) → 9 ≡ judged b now m
+module _ (b m : List ℕ) (now : ℕ) {n : ℕ} (e : n ≡ byState b now) where
+  pub judged-state : (n ≡ 0 → ⊥) → n ≡ judged b now m
   unfolding judged
-  judged-long h = by (soundRouterBytes b) refl
-    where
-      by : (t : Bool) → soundRouterBytes b ≡ t → 9 ≡ cond (not t) 9 (number (restTests b now m))
-      by true e = absurd (h (lent-length b e))
-      by false e = refl
+  judged-state h = state-here b now e (awaitedTests b m) h
 
-  module _ {x : Bool} (sd : x ≡ soundRouterBytes b) where
-    pub judged-9 : not x ≡ true → 9 ≡ judged b now m
+  module _ (z : n ≡ 0) {y : Bool} (aw : y ≡ awaited (routerOf b) m (read m) (routerOf b .exchange)) where
+    pub judged-awaited : {k : ℕ} → cond (not y) 14 0 ≡ k → k ≡ judged b now m
     unfolding judged
-    judged-9 h = rw (← sd, h)
-
-    module _ (s : not x ≡ false) where
-      pub judged-sound : soundRouterBytes b ≡ true
-      judged-sound = sym sd ∙ not-false x s
-
-      module _ {last : ℕ} (la : last ≡ numAt b 0 8) where
-        timed : {y : Bool} → ltb now last || leb (2 ^ 48) now ≡ y → badTime (routerOf b .last) now ≡ y
-        unfolding routerOf
-        timed h = ap (λ x. badTime x now) (sym la) ∙ h
-
-        pub judged-1 : ltb now last || leb (2 ^ 48) now ≡ true → 1 ≡ judged b now m
-        unfolding judged
-        judged-1 h = rw (← sd, s, timed h)
-
-        module _ (g : ltb now last || leb (2 ^ 48) now ≡ false) {y : Bool} (aw : y ≡ awaited (routerOf b) m (read m) (routerOf b .exchange)) where
-          pub judged-14 : not y ≡ true → 14 ≡ judged b now m
-          unfolding judged
-          judged-14 h = rw (← sd, s, timed g, ← aw, h)
-
-          pub judged-0 : not y ≡ false → 0 ≡ judged b now m
-          unfolding judged
-          judged-0 h = rw (← sd, s, timed g, ← aw, h)
+    judged-awaited h = sym (state-later b now e z (awaitedTests b m) ∙ ap (λ t. cond (not t) 14 0) (sym aw) ∙ h)
 
 -- ---------------------------------------------------------------- the first prefix that is taken
 
@@ -355,7 +331,7 @@ module _ (b m : List ℕ) (now : ℕ) {n : ℕ} (e : n ≡ judged b now m) where
 
   received-is : routerReceived b now m ≡ settled (unless (tests b now m) (done after))
   unfolding routerReceived routerReceive
-  received-is = ap settled (nine-once (soundRouterBytes b) (soundRouter (routerOf b)) (λ h. router-sound-bytes b h .0) (restTests b now m) (done after))
+  received-is = ap settled (router-once b ((1, badTime (routerOf b .last) now) ∷ awaitedTests b m) (done after))
 
   pub received-refused : (n ≡ 0 → ⊥) → ended (n * 65536) b [] ≡ routerReceived b now m
   unfolding judged
@@ -364,7 +340,7 @@ module _ (b m : List ℕ) (now : ℕ) {n : ℕ} (e : n ≡ judged b now m) where
   module _ (z : n ≡ 0) where
     passed : Every (λ r. r .1 ≡ false) (tests b now m)
     unfolding judged
-    passed = number-none (tests b now m) ((λ z. absurd (omega arith)), ((λ z. absurd (omega arith)), ((λ z. absurd (omega arith)), tt))) (sym e ∙ z)
+    passed = none-applies (tests b now m) refl e z
 
     pub received-accepted : {k : ℕ} → k ≡ numAt b 346 1 → Accepted b m k
     received-accepted q = record { sound = not-false _ (passed .0); kind = q; awaits = not-false _ (passed .1 .1 .0) }

@@ -1,11 +1,10 @@
 -- What receiving judges by, and what it takes of a message.
 use mathlib.Core.Path.{_≡_}
 use mathlib.Core.Bool.{Bool, true, cond, not, _||_}
-use mathlib.Core.List.{List, [], _∷_}
+use mathlib.Core.List.{List, [], _∷_, _++_}
 use Prim.Native.Nat.{ℕ, _+_}
 use lib.Dec.{eqb}
 use Rattle.rules.specs.Words.{numAt}
-use Rattle.rules.specs.Refusals.{badTime}
 use Rattle.rules.specs.Options.{areaOf, options, content}
 use Rattle.rules.specs.Message.{listedAt, read}
 use Rattle.rules.specs.Router.{awaited, takes}
@@ -15,13 +14,14 @@ use Rattle.rules.specs.declared.Found.the-variants.{At, Nothing}
 use Rattle.laws.specs.Refusals.{number}
 use Rattle.laws.specs.Formed.{PrefixFormed}
 use Rattle.heard.specs.Heard.{onlyOf}
+use Rattle.state.specs.Judged.{stateTests}
 
--- the tests, the one of the lent bytes first
-abbrev pub restTests : List ℕ → ℕ → List ℕ → List (ℕ × Bool)
-restTests b now m = (1, badTime (routerOf b .last) now) ∷ (14, not (awaited (routerOf b) m (read m) (routerOf b .exchange))) ∷ []
+-- the tests, those by the state first
+abbrev pub awaitedTests : List ℕ → List ℕ → List (ℕ × Bool)
+awaitedTests b m = (14, not (awaited (routerOf b) m (read m) (routerOf b .exchange))) ∷ []
 
 abbrev pub tests : List ℕ → ℕ → List ℕ → List (ℕ × Bool)
-tests b now m = (9, not (soundRouterBytes b)) ∷ restTests b now m
+tests b now m = stateTests b now ++ awaitedTests b m
 
 unfoldable pub judged : List ℕ → ℕ → List ℕ → ℕ
 judged b now m = number (tests b now m)

@@ -19,6 +19,7 @@ use clock::Lifetime;
 use clock::Moment;
 use heard::only;
 use rules::Found;
+use state::judge::by_state;
 use values::IaPrefix;
 use wire::content::prefix_at;
 use wire::find::count_of;
@@ -26,17 +27,11 @@ use wire::find::find;
 
 // 9, 1, 14: the number of the refusal, or 0.
 fn judge(t: &[u8], time: u64, msg: &[u8]) -> u64
-    ensures { λ r. ⌜ (r ≡ judged (now (t .entry)) time (now (msg .entry))) × (r < 15) ⌝ }
+    ensures { λ r. ⌜ (r ≡ judged (now (t .entry)) time (now (msg .entry))) × (r < 16) ⌝ }
 {
-    if t.len() != 384 {
-        return 9;
-    }
-    if !state::sound(t) {
-        return 9;
-    }
-    let last = cells::get(t, 0, 8);
-    if (time < last) | (0x1_0000_0000_0000 <= time) {
-        return 1;
+    let n = by_state(t, time);
+    if n != 0 {
+        return n;
     }
     if !awaited::awaited(t, msg) {
         return 14;

@@ -1,6 +1,7 @@
-// A router's state in its 384 lent bytes: whether it is sound, and its changes.
+// A router's state in its 384 lent bytes: whether it is sound, what is refused by it, and its changes.
 pub mod change; // change.rt: starting, sending, receiving
 pub mod hold; // hold.rt: what is held, in its bytes
+pub mod judge; // judge.rt: what is refused by the state and the time
 
 ghost use mathlib.Core.Path.{_≡_};
 ghost use Prim.Native.Nat.{_+_, _≤_, _<_};
