@@ -1,7 +1,6 @@
 // The box is started: an empty table, with settings that are good.
 ghost use mathlib.Core.Path.{_≡_};
 ghost use mathlib.Core.List.{[]};
-ghost use Prim.Native.Nat.{_+_, _*_, _^_};
 ghost use Rattle.rules.specs.Settings.{goodSettings};
 ghost use Rattle.rules.specs.Lent.{ended, boxStarted};
 ghost use Rattle.delegator.specs.Given.{given};

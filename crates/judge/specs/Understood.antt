@@ -1,5 +1,5 @@
 -- A message that passed every test but the last, beside a sound table; and what it asks, as code holds it.
-use mathlib.Core.Path.{_≡_, refl, sym, ap, _∙_}
+use mathlib.Core.Path.{_≡_, refl, ap, _∙_}
 use mathlib.Core.Bool.{Bool, true, false}
 use mathlib.Core.List.{List, map}
 use mathlib.Core.Option.{Option, none, some}
@@ -12,7 +12,7 @@ use Rattle.rules.specs.Settings.{Settings}
 use Rattle.rules.specs.Table.{Record}
 use Rattle.rules.specs.TableBytes.{tableOf, soundBytes}
 use Rattle.rules.specs.Choose.{choose}
-use Rattle.rules.specs.Box.{binding, hintOf, Asked, serveSolicit, serveRequest, serveRenew, serveRebind, serveRelease, serve, gone, isFreed, clientOf, iaOf as askedIa, askedBy, wrongPds, isSilence}
+use Rattle.rules.specs.Box.{binding, hintOf, Asked, serveSolicit, serveRequest, serveRenew, serveRebind, serveRelease, serve, clientOf, iaOf as askedIa, askedBy, wrongPds, isSilence}
 use Rattle.rules.specs.declared.Kind.{Kind}
 use Rattle.rules.specs.declared.Kind.the-variants.{Solicit, Request, Renew, Rebind, Release}
 use Rattle.values.specs.Values.{firstListed, iaOf}

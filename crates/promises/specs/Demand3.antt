@@ -1,14 +1,12 @@
 -- Demand 3: every prefix that a router alive still counts as held is bound to it in the box's table, with the same excluded prefix,
 -- until at least the moment the router stops. So no two routers hold overlapping prefixes.
-use Prim.Native.Nat.{_^_}
 use mathlib.Core.Path.{_≡_, refl, sym, _∙_, ap, subst}
 use mathlib.Core.Bool.{Bool, true, false, not}
 use mathlib.Core.List.{List, [], _∷_, List·Memᴰ, List·Memᴰ·cases-cons}
 use mathlib.Core.Logic.{_⊎_, inl, inr}
 use mathlib.Core.Option.{some}
 use native.Mathlib.Omega.{arith}
-use borrow.Author.Tests.{leb-false, not-true, not-false}
-use lib.Dec.{leb, ltb}
+use borrow.Author.Tests.{not-true, not-false}
 use Rattle.rules.specs.Words.{all, noTwo}
 use Rattle.rules.specs.Refusals.{done}
 use Rattle.rules.specs.Prefix.{overlap}
@@ -20,7 +18,7 @@ use Rattle.rules.specs.Box.{startTests, boxStart}
 use Rattle.rules.specs.World.{Box}
 use Rattle.rules.specs.Promises.{Bound, Demand3, Apart}
 use Rattle.rules.specs.Router.{Hold}
-use Rattle.laws.specs.Tests.{both, neither}
+use Rattle.laws.specs.Tests.{both}
 use Rattle.laws.specs.Refusals.{unless-done, in-time, one}
 use Rattle.laws.specs.Prefix.{overlap-sym}
 use Rattle.laws.specs.Sound.{sound-facts, sound-made}

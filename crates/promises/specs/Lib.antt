@@ -2,6 +2,7 @@ pub mod Stays
 pub mod Readings
 pub mod Invariant
 pub mod Routers
+pub mod RouterStays
 pub mod Boxes
 pub mod Demand3
 pub mod ExactlyWhen

@@ -8,7 +8,7 @@ use mathlib.Core.Option.{Option, none, some, Option·none-ne-some}
 use native.Mathlib.Omega.{arith}
 use lib.Dec.{eqb, leb, ltb}
 use lib.ListN.{length, getD}
-use borrow.Author.Tests.{eqb-true, leb-false, ltb-false, not-false}
+use borrow.Author.Tests.{eqb-true, leb-false, not-false}
 use Rattle.rules.specs.Words.{all, first, sameBytes}
 use Rattle.rules.specs.Refusals.{done, wrongSize}
 use Rattle.rules.specs.Prefix.{Lease, lease}
@@ -209,6 +209,7 @@ pub record Awaited (r : Router) (m : List ℕ) (x : Exchange) : Type 0 where
   pub type : read m .kind ≡ answerType (x .kind)
   pub number : read m .number ≡ numberBefore (r .next)
   pub client : clientOf (read m) ≡ r .me .duid
+  pub told-by : fromServer (x .kind) (r .server) (read m .servers) ≡ true
   pub ias : goodIas (x .kind) (r .me .iaid) (read m .ias) ≡ true
 
 pub awaited-facts : (r : Router) (m : List ℕ) (x : Exchange) → awaited r m (read m) (some x) ≡ true → Awaited r m x
@@ -229,6 +230,7 @@ awaited-facts r m x e =
       type = eqb-true _ _ (h .1);
       number = eqb-true _ _ (g .1);
       client = sym (bytes-true _ _ (o .1));
+      told-by = c .1;
       ias = b .1;
     }
 
@@ -299,7 +301,7 @@ module _ (r : Router) (n : Moment) (m : List ℕ) (x : Exchange) (is : r .exchan
     holds = λ c e h. held-after (x .kind) refl c e h;
   }
 
-awaited-open : (r : Router) (m : List ℕ) (o : Option Exchange) → awaited r m (read m) o ≡ true → isOpen o ≡ true
+pub awaited-open : (r : Router) (m : List ℕ) (o : Option Exchange) → awaited r m (read m) o ≡ true → isOpen o ≡ true
 unfolding awaited
 awaited-open r m none e = absurd (false≢true e)
 awaited-open r m (some x) e = refl

@@ -1,5 +1,4 @@
 -- By the type: nothing, a server, a hold that hasn't ended.
-use borrow.Author.Needs.{needs}
 use native.Mathlib.Omega.{arith}
 use Rattle.laws.specs.RouterRepresent.{lent-length}
 use Rattle.requester.proofs.Tests.{allowed-1, allowed-3, allowed-held}

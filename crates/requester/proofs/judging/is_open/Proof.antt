@@ -1,5 +1,4 @@
 -- A type that isn't 0.
-use borrow.Author.Needs.{needs}
 use native.Mathlib.Omega.{arith}
 use Rattle.laws.specs.RouterRepresent.{lent-length}
 use Rattle.requester.proofs.Tests.{open-read}

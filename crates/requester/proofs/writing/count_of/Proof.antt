@@ -1,5 +1,4 @@
 -- None only where no length is wanted.
-use borrow.Author.Needs.{needs}
 use native.Mathlib.Omega.{arith}
 use Rattle.requester.proofs.Message.{open-long, count-none, count-one}
 use Rattle.requester.proofs.writing.count_of.Statement.{statement}

@@ -1,5 +1,4 @@
 -- By the type.
-use borrow.Author.Needs.{needs}
 use native.Mathlib.Omega.{arith}
 use Rattle.requester.proofs.Message.{open-long, first-wanted, first-carried}
 use Rattle.requester.proofs.writing.first_of.Statement.{statement}
