@@ -403,6 +403,12 @@ fn sound(r: &mut Random) -> Table {
     Table { last, settings, records }
 }
 
+/// One bit of the bytes changed.
+fn flip(r: &mut Random, bytes: &mut [u8]) {
+    let at = r.below(bytes.len() as u64) as usize;
+    bytes[at] ^= 1 << r.below(8);
+}
+
 /// A table that isn't sound, or seldom is: one byte changed anywhere, the count changed, an overlap, an identity
 /// twice, or one rule of soundness broken by a hair. (A changed byte may leave it sound: an IAID's byte, say.)
 pub fn damaged_table(r: &mut Random, sound: &TableBytes) -> Box<TableBytes> {
@@ -414,8 +420,7 @@ pub fn damaged_table(r: &mut Random, sound: &TableBytes) -> Box<TableBytes> {
     let used = 176 + RECORD_BYTES * count;
     match r.below(14) {
         0 => {
-            let at = r.below(TABLE_BYTES as u64) as usize;
-            bytes[at] ^= 1 << r.below(8);
+            flip(r, &mut bytes[..]);
             return bytes;
         }
         1 => {
@@ -424,8 +429,7 @@ pub fn damaged_table(r: &mut Random, sound: &TableBytes) -> Box<TableBytes> {
             return bytes;
         }
         2 => {
-            let at = r.below(176) as usize;
-            bytes[at] ^= 1 << r.below(8);
+            flip(r, &mut bytes[..176]);
             return bytes;
         }
         3 => {
@@ -631,8 +635,7 @@ pub fn damaged_state(r: &mut Random, sound: &StateBytes) -> StateBytes {
     };
     match r.below(16) {
         0..=2 => {
-            let at = r.below(STATE_BYTES as u64) as usize;
-            bytes[at] ^= 1 << r.below(8);
+            flip(r, &mut bytes[..]);
             return bytes;
         }
         3 => {

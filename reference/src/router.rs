@@ -270,17 +270,26 @@ pub fn pd_router_release(state: &mut StateBytes, now: u64, message: &mut [u8]) -
     begin(RELEASE, state, now, message)
 }
 
-/// Begins an exchange and writes its message. Gives 9, 1, 2, 11, 12, 13.
-fn begin(kind: u8, state: &mut StateBytes, now: u64, message: &mut [u8]) -> u64 {
-    let Some(mut kept) = State::read(state) else {
-        return refused(9);
+/// What stands in the state, where nothing speaks against writing a message now. Gives 9, 1, 2.
+fn judged(state: &StateBytes, now: u64, message: &[u8]) -> Result<State, u64> {
+    let Some(kept) = State::read(state) else {
+        return Err(refused(9));
     };
     if kept.time_refused(now) {
-        return refused(1);
+        return Err(refused(1));
     }
     if message.len() < ROOM_BYTES {
-        return refused(2);
+        return Err(refused(2));
     }
+    Ok(kept)
+}
+
+/// Begins an exchange and writes its message. Gives 9, 1, 2, 11, 12, 13.
+fn begin(kind: u8, state: &mut StateBytes, now: u64, message: &mut [u8]) -> u64 {
+    let mut kept = match judged(state, now, message) {
+        Ok(kept) => kept,
+        Err(word) => return word,
+    };
     if kept.open.is_some() {
         return refused(11);
     }
@@ -317,15 +326,10 @@ fn begin(kind: u8, state: &mut StateBytes, now: u64, message: &mut [u8]) -> u64 
 
 /// Writes the open exchange's message again. Gives 9, 1, 2, 13.
 pub fn pd_router_resend(state: &mut StateBytes, now: u64, message: &mut [u8]) -> u64 {
-    let Some(mut kept) = State::read(state) else {
-        return refused(9);
+    let mut kept = match judged(state, now, message) {
+        Ok(kept) => kept,
+        Err(word) => return word,
     };
-    if kept.time_refused(now) {
-        return refused(1);
-    }
-    if message.len() < ROOM_BYTES {
-        return refused(2);
-    }
     let Some(open) = kept.open else {
         return refused(13);
     };

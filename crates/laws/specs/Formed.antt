@@ -4,7 +4,7 @@
 --   judged-..               what the judgement of one option says of it
 --   formed-..               what is known of each that is found in a well-formed message
 use mathlib.Core.Path.{_≡_, refl}
-use Prim.Native.Nat.{ℕ, zero, suc, _+_, _%_, _≤_}
+use Prim.Native.Nat.{ℕ, zero, suc, _+_, _≤_}
 use mathlib.Core.List.{List}
 use mathlib.Core.Bool.{Bool, true, false, cond, _&&_}
 use native.Mathlib.Omega.{arith}
@@ -80,24 +80,11 @@ module _ (m : List ℕ) (i p s n : ℕ) where
   unfolding own
   judged-exclude a h = both (eqb i 0) (excludeOk m a s n) (wants-good (eqb i 0 && excludeOk m a s n) p h) .1
 
-  pub judged-request : own Top m i p 6 s n ≡ Good → n % 2 ≡ 0
-  unfolding own
-  judged-request h = eqb-true (n % 2) 0 (wants-good (eqb (n % 2) 0) p h)
-
-  pub judged-status : (l : Level) → own l m i p 13 s n ≡ Good → 2 ≤ n
-  unfolding own
-  judged-status Top h = leb-true 2 n (wants-good (leb 2 n) p h)
-  judged-status InPd h = leb-true 2 n (wants-good (leb 2 n) p h)
-  judged-status (InPrefix a) h = leb-true 2 n (wants-good (leb 2 n) p h)
-
 -- ---------------------------------------------------------------- what is found in a good area
 
 pub good-found : (l : Level) (m : List ℕ) (w k at e : ℕ) {p s n : ℕ} → check l m at e ≡ Good → nth w k (areaOf m at e) ≡ At p s n → Judged (own l m) w p s n
 unfolding check
 good-found l m w k at e h f = judged-in (own l m) w (areaOf m at e) 0 k h f
-
-pub good-status : (l : Level) (m : List ℕ) (k at e : ℕ) {p s n : ℕ} → check l m at e ≡ Good → nth 13 k (areaOf m at e) ≡ At p s n → 2 ≤ n
-good-status l m k at e {p} {s} {n} h f = let j = good-found l m 13 k at e h f in judged-status m (j .seen) p s n l (j .good)
 
 pub good-exclude : (m : List ℕ) (a k at e : ℕ) {p s n : ℕ} → checkPrefix m a at e ≡ Good → nth 67 k (areaOf m at e) ≡ At p s n → excludeOk m a s n ≡ true
 unfolding checkPrefix check own
@@ -111,10 +98,6 @@ module _ (m : List ℕ) (good : wellFormed m ≡ true) where
   pub formed-pd : (k : ℕ) {p s n : ℕ} → nth 25 k (top m) ≡ At p s n → PdFormed m s n
   unfolding top
   formed-pd k {p} {s} {n} f = let j = good-found Top m 25 k 4 (length m) formed f in judged-pd m (j .seen) p s n (nth-inside 25 k m 4 (length m) f) (j .good)
-
-  pub formed-request : (k : ℕ) {p s n : ℕ} → nth 6 k (top m) ≡ At p s n → n % 2 ≡ 0
-  unfolding top
-  formed-request k {p} {s} {n} f = let j = good-found Top m 6 k 4 (length m) formed f in judged-request m (j .seen) p s n (j .good)
 
 pub formed-prefix : (m : List ℕ) (s n : ℕ) → PdFormed m s n → (k : ℕ) {p t l : ℕ} → nth 26 k (areaOf m (s + 12) (s + n)) ≡ At p t l → PrefixFormed m t l
 formed-prefix m s n h k {p} {t} {l} f =

@@ -6,7 +6,7 @@ use native.Mathlib.Nat.{zero-add, add-zero, sub-zero, zero-sub, suc-sub-suc}
 use native.Mathlib.Numerals.{add-one}
 use native.Mathlib.Omega.{arith}
 use lib.ListN.{length, getD, take, drop, set, replicate, length-append, length-take, length-drop, take-append-drop}
-use lib.Seq.{take-suc-set, drop-set-lt, drop-cons, take-append-le, drop-append-le, take-take, drop-drop, take-at, drop-at, drop-length, take-nil, drop-append-add, length-take-le}
+use lib.Seq.{take-suc-set, drop-set-lt, drop-cons, take-take, drop-drop, take-at, drop-at, drop-length, take-nil, drop-append-add, length-take-le}
 use Rattle.rules.specs.Words.{part, splice, be}
 
 module _ {A : Type 0} where
@@ -109,13 +109,6 @@ module _ {A : Type 0} where
   pub part-mid : (k n : ℕ) (d e f : List A) → length d ≡ k → length e ≡ n → part k n (d ++ (e ++ f)) ≡ e
   unfolding part
   part-mid k n d e f q s = rw (drop-at d (e ++ f) k q) (take-at e f n s)
-
-  -- a part of the first of two lists
-  pub part-left : (a n : ℕ) (d e : List A) → a + n ≤ length d → part a n (d ++ e) ≡ part a n d
-  unfolding part
-  part-left a n d e h =
-      let b : n ≤ length (drop a d) = simp length-drop (omega arith) in
-      rw (drop-append-le a d e (omega arith), take-append-le n (drop a d) e b)
 
   -- a turn of a loop that puts in e′ from i: it stores x, and e is left
   pub turn : (i j : ℕ) (x : A) (e e′ l r : List A) → i < length l → j ≡ i + 1 → e′ ≡ x ∷ e → splice i e′ l ≡ r → splice j e (set l i x) ≡ r

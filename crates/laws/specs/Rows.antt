@@ -13,7 +13,6 @@ use lib.Seq.{length-take-le}
 use Rattle.rules.specs.Words.{consIf, keep, each, from, part, splice}
 use Rattle.rules.specs.TableBytes.{headerSize, recordSize, tableSize, place, flag, rowAt}
 use Rattle.laws.specs.Parts.{left, length-part, length-splice, part-after, take-splice, drop-splice, part-mid}
-use Rattle.laws.specs.Loops.{from-length, keep-few}
 
 abbrev pub rows : List ℕ → ℕ → ℕ → List (List ℕ)
 rows t i k = from (rowAt t) i k
@@ -127,9 +126,6 @@ rows-each h u i (one-more {e} {es} s r) q =
     rw (x, ← a, y)
 
 module _ (f : List ℕ → Bool) (n : ℕ) (l : List ℕ) (h : n ≤ 256) (room : tableSize ≤ length l) where
-  pub kept-few : length (kept f n l) ≤ n
-  kept-few = rw (from-length (rowAt l) n 0) at (keep-few f (rows l 0 n))
-
   abbrev rest : List ℕ
   rest = replicate ((n - length (kept f n l)) * recordSize) 0 ++ drop (place n) l
 

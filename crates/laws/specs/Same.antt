@@ -19,9 +19,6 @@ same-bool true b f g = sym (f refl)
 same-bool false true f g = g refl
 same-bool false false f g = refl
 
-pub same-eq : (x y u w : List ℕ) → x ≡ u → y ≡ w → sameBytes x y ≡ sameBytes u w
-same-eq x y u w p q = rw (p, q)
-
 pub same-append : (x y u w : List ℕ) → length x ≡ length u → sameBytes (x ++ y) (u ++ w) ≡ sameBytes x u && sameBytes y w
 same-append [] y [] w e = refl
 same-append [] y (b ∷ u) w e = absurd (omega arith)

@@ -66,10 +66,6 @@ module _ (m : List ℕ) where
   unfolding read
   read-number = numAt-fits m 1 3
 
-  pub read-ias : Every ToldIa (read m .ias)
-  unfolding read
-  read-ias = every-map ToldIa (iaAt m) (options 25 (top m)) (every ia-told (options 25 (top m)))
-
 -- ---------------------------------------------------------------- each option of a good area is good
 
 pub and-good : (x y : Checked) → andThen x y ≡ Good → (x ≡ Good) × (y ≡ Good)

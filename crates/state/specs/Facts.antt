@@ -5,14 +5,14 @@
 use mathlib.Core.Path.{_≡_, refl}
 use mathlib.Core.Bool.{Bool, true, false, not}
 use mathlib.Core.List.{List, [], _∷_, _++_}
-use Prim.Native.Nat.{ℕ, _≤_, _<_, _^_}
+use Prim.Native.Nat.{ℕ}
 use borrow.Author.Tests.{not-false}
 use lib.ListN.{length}
 use Rattle.rules.specs.Refusals.{Res, unless}
 use Rattle.rules.specs.Router.{soundRouter}
 use Rattle.rules.specs.RouterBytes.{routerOf, soundRouterBytes}
 use Rattle.laws.specs.Every.{Every}
-use Rattle.laws.specs.Refusals.{number, none-applies, number-here, number-later, in-time, nine-once}
+use Rattle.laws.specs.Refusals.{number, none-applies, number-here, number-later, nine-once}
 use Rattle.laws.specs.RouterRepresent.{lent-length, router-sound-bytes}
 use Rattle.state.specs.Judged.{stateTests, byState}
 
@@ -35,9 +35,6 @@ module _ (b : List ℕ) (now : ℕ) {n : ℕ} (e : n ≡ byState b now) where
 
     pub state-size : length b ≡ 384
     state-size = lent-length b state-sound
-
-    pub state-time : (routerOf b .last ≤ now) × (now < 2 ^ 48)
-    state-time = in-time (routerOf b .last) now (state-none .1 .0)
 
 -- 9 once
 pub router-once : {A : Type 0} (b : List ℕ) (ts : List (ℕ × Bool)) (x : Res A)
