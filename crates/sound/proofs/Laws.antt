@@ -2,19 +2,18 @@
 --   setup-read, header-read                         the settings as numbers, and what is asked of them
 --   row-agrees, numbers-read                        what they ask of a record
 --   duid-..                                         a DUID behind its length
---   lent                                            a record's DUID, as it is lent
+--   two-stop, two-rest                              the two tests of every two records
 --   sound-size                                      a sound table has one size
---   other-size, too-many, sound-read                the whole table
+--   other-size, too-many, bad-rows, sound-read      the whole table
 use mathlib.Core.Path.{_≡_, sym, ap, _∙_}
-use mathlib.Core.Bool.{Bool, true, false, not, _&&_}
+use mathlib.Core.Bool.{Bool, true, false, not, _&&_, and-true, and-false}
 use mathlib.Core.List.{List, []}
 use Prim.Native.Nat.{ℕ, _+_, _-_, _≤_, _<_, _^_}
-use native.Mathlib.Omega.{arith}
 use native.Mathlib.Nat.{add-sub-cancel-left}
 use lib.Dec.{eqb, leb, ltb}
 use lib.ListN.{length, take, drop}
-use borrow.Author.Tests.{le-leb, lt-leb}
-use Rattle.rules.specs.Words.{all, noTwo, from, part, numAt}
+use borrow.Author.Tests.{le-leb, lt-leb, not-true, not-false}
+use Rattle.rules.specs.Words.{all, noTwo, from, part, splice, numAt}
 use Rattle.rules.specs.Prefix.{zeroAfter, inside}
 use Rattle.rules.specs.Clock.{goodEnd}
 use Rattle.rules.specs.Table.{mayStand}
@@ -24,8 +23,10 @@ use Rattle.laws.specs.Numbers.{Bytes}
 use Rattle.laws.specs.Same.{same-bool}
 use Rattle.laws.specs.Represent.{sound-bytes, table-length}
 use Rattle.laws.specs.Flat.{duidIn, goodNumbers, goodRow, goodHeader, flatSound, flat-sound}
-use Rattle.laws.specs.InPlace.{owner-part}
 use Rattle.prefix.specs.Upper.{upper}
+use Rattle.distinct.specs.Distinct.{Distinct}
+use Rattle.ranks.specs.Rank.{keyAt, clear}
+use Rattle.ranks.specs.Clear.{two-tests, keys-tell}
 use Rattle.sound.specs.Setup.{setupOf, Agrees}
 use Rattle.sound.specs.declared.Setup.{Setup}
 
@@ -75,11 +76,19 @@ module _ (at n : ℕ) (b : List ℕ) where
   pub duid-between : {r : Bool} → 3 ≤ n → n ≤ 130 → r ≡ all (eqb 0) (part (at + n) (130 - n) b) → r ≡ duidIn at n b
   duid-between h g e = rw (le-leb 3 n h, le-leb n 130 g) e
 
--- record j's DUID, as it is lent
-pub lent : (t : List ℕ) (j : ℕ) {n : ℕ} → j < 256 → tableSize ≤ length t → n ≡ length (recordAt t j .owner .duid)
-    → take (place j + 23 + n - (place j + 23)) (drop (place j + 23) t) ≡ recordAt t j .owner .duid
-unfolding part
-lent t j {n} h room e = let k : place j + 23 + n - (place j + 23) ≡ n = omega arith in rw (k, e) (sym (owner-part t j h room))
+-- ---------------------------------------------------------------- records beside each other
+
+module _ (t : List ℕ) (n : ℕ) {a : Bool} (areas : a ≡ noTwo (clear true) (from (recordAt t) 0 n)) where
+  pub two-stop : not a ≡ true → false ≡ noTwo mayStand (from (recordAt t) 0 n)
+  two-stop h = sym (two-tests (from (recordAt t) 0 n) ∙ rw (sym areas ∙ not-true a h))
+
+  pub two-rest : {b : Bool} → not a ≡ false → b ≡ noTwo (clear false) (from (recordAt t) 0 n) → b ≡ noTwo mayStand (from (recordAt t) 0 n)
+  two-rest h e = e ∙ sym (two-tests (from (recordAt t) 0 n) ∙ rw (sym areas ∙ not-false a h))
+
+-- keys by identity of which no two are the same tell it
+pub names-told : (t keys l : List ℕ) (n : ℕ) (by : Bool) → all (goodRow (settingsOf t)) (from (rowAt t) 0 n) ≡ true → Bytes t → tableSize ≤ length t → n ≤ 256
+    → keys ≡ splice 0 (from (keyAt by t) 0 n) l → (by ≡ false) × Distinct keys n → true ≡ noTwo (clear by) (from (recordAt t) 0 n)
+names-told t keys l n by good bytes room few e h = rw (h .0) (sym (keys-tell (settingsOf t) t keys n good l bytes room few (rw (h .0) at e) (h .1)))
 
 -- ---------------------------------------------------------------- the table
 
@@ -95,10 +104,18 @@ module _ (b : List ℕ) where
     unfolding flatSound
     too-many h = sym (flat-sound b y s ∙ rw (← e, lt-leb n 256 h))
 
-    pub sound-read : {h g w z : Bool} {l : ℕ} → n ≤ 256 → h ≡ goodHeader b → g ≡ all (goodRow (settingsOf b)) (from (rowAt b) 0 n) → w ≡ noTwo mayStand (from (recordAt b) 0 n)
-        → z ≡ all (eqb 0) (part (place n) (tableSize - place n) b) → l ≡ numAt b 0 8 → h && g && w && z && ltb l (2 ^ 48) ≡ soundBytes b
-    unfolding flatSound
-    sound-read m h g w z l = rw (h, g, w, z, l) (sym (flat-sound b y s ∙ rw (← e, le-leb n 256 m)))
+    -- the first n records, good or not
+    module _ (few : n ≤ 256) {g : Bool} (rows : g ≡ all (goodRow (settingsOf b)) (from (rowAt b) 0 n)) where
+      pub bad-rows : not g ≡ true → false ≡ soundBytes b
+      unfolding flatSound
+      bad-rows h = let r = sym rows ∙ not-true g h in sym (flat-sound b y s ∙ rw (← e, le-leb n 256 few, r, and-false (goodHeader b)))
+
+      pub sound-read : {h w z : Bool} {l : ℕ} → not g ≡ false → h ≡ goodHeader b → w ≡ noTwo mayStand (from (recordAt b) 0 n)
+          → z ≡ all (eqb 0) (part (place n) (tableSize - place n) b) → l ≡ numAt b 0 8 → h && w && z && ltb l (2 ^ 48) ≡ soundBytes b
+      unfolding flatSound
+      sound-read k h w z l =
+          let r = sym rows ∙ not-false g k in
+          rw (h, w, z, l) (sym (flat-sound b y s ∙ rw (← e, le-leb n 256 few, r, and-true (goodHeader b))))
 
 -- ---------------------------------------------------------------- the box's own DUID
 

@@ -1,14 +1,15 @@
 // Whether lent bytes are a sound table. Every function reads only.
 ghost use mathlib.Core.Path.{_≡_};
 ghost use Prim.Native.Nat.{_+_, _-_, _≤_, _<_};
-ghost use mathlib.Core.Bool.{true};
+ghost use mathlib.Core.Bool.{true, false};
 ghost use mathlib.Core.List.{[]};
 ghost use lib.ListN.{length};
 ghost use Rattle.rules.specs.Words.{all, noTwo, from, numAt};
-ghost use Rattle.rules.specs.Identity.{sameIdentity};
 ghost use Rattle.rules.specs.Table.{mayStand};
 ghost use Rattle.rules.specs.TableBytes.{tableSize, flag, rowAt, recordAt, settingsOf, countOf, soundBytes};
 ghost use Rattle.laws.specs.Flat.{goodNumbers, duidIn, goodRow, goodHeader};
+ghost use Rattle.ranks.specs.Rank.{clear};
+ghost use Rattle.distinct.specs.Distinct.{Distinct};
 ghost use Rattle.sound.specs.Setup.{setupOf, Agrees};
 
 // The numbers of the box's settings: the pool by its upper half and its length P, then S and D. The own DUID stays in the table.
@@ -152,57 +153,39 @@ fn rows_good(t: &[u8], n: usize, s: Setup) -> bool
     true
 }
 
-// Whether records i and j have the same identity.
-pub fn same_identity(t: &[u8], i: usize, j: usize) -> bool
-    requires { ⌜ (i < 256) × (j < 256) × (tableSize ≤ length (now t)) ⌝ }
-    ensures { λ r. ⌜ r ≡ sameIdentity (recordAt (now (t .entry)) i .owner) (recordAt (now (t .entry)) j .owner) ⌝ }
+// Whether the keys tell it already: by identity they do where no two are the same, which is the common case.
+fn told(keys: &[u64], area: bool, n: usize) -> bool
+    requires { ⌜ n ≤ length (now keys) ⌝ }
+    ensures { λ r. ⌜ (r ≡ true → (area ≡ false) × Distinct (now (keys .entry)) n) ⌝ }
 {
-    if fields::iaid_at(t, i) != fields::iaid_at(t, j) {
+    if area {
         return false;
     }
-    let d = 176 + j * 153 + 23;
-    let e = d + fields::duid_len(t, j);
-    fields::has_duid(t, i, &t[d..e])
+    distinct::plain(keys, n)
 }
 
-// Whether records i and j may stand in one table.
-pub fn may_stand(t: &[u8], i: usize, j: usize) -> bool
-    requires { ⌜ (i < 256) × (j < 256) × (tableSize ≤ length (now t)) ⌝ }
-    ensures { λ r. ⌜ r ≡ mayStand (recordAt (now (t .entry)) i) (recordAt (now (t .entry)) j) ⌝ }
+// Whether every two of n good records are clear of each other, by area or by identity.
+fn all_clear(t: &[u8], area: bool, n: usize) -> bool
+    requires { ⌜ (n ≤ 256) × (tableSize ≤ length (now t)) × (all (goodRow (settingsOf (now t))) (from (rowAt (now t)) 0 n) ≡ true) ⌝ }
+    ensures { λ r. ⌜ r ≡ noTwo (clear area) (from (recordAt (now (t .entry))) 0 n) ⌝ }
 {
-    let p = fields::area_at(t, i);
-    let q = fields::area_at(t, j);
-    !prefix::half::overlap(p.upper, p.length, q.upper, q.length) & !same_identity(t, i, j)
-}
-
-// Whether record i may stand with every later one of n.
-fn alone(t: &[u8], i: usize, n: usize) -> bool
-    requires { ⌜ (i < n) × (n ≤ 256) × (tableSize ≤ length (now t)) ⌝ }
-    ensures { λ r. ⌜ r ≡ all (mayStand (recordAt (now (t .entry)) i)) (from (recordAt (now (t .entry))) (i + 1) (n - (i + 1))) ⌝ }
-{
-    let mut j = i + 1;
-    while j < n {
-        if !may_stand(t, i, j) {
-            return false;
-        }
-        j += 1;
+    let mut keys = [0u64; 256];
+    ranks::put_keys(t, area, n, &mut keys);
+    if told(&keys, area, n) {
+        return true;
     }
-    true
+    ordered::apart(t, &keys, area, n)
 }
 
-// Whether every two of n records may.
+// Whether every two of them may stand in one table.
 fn no_two(t: &[u8], n: usize) -> bool
-    requires { ⌜ (n ≤ 256) × (tableSize ≤ length (now t)) ⌝ }
+    requires { ⌜ (n ≤ 256) × (tableSize ≤ length (now t)) × (all (goodRow (settingsOf (now t))) (from (rowAt (now t)) 0 n) ≡ true) ⌝ }
     ensures { λ r. ⌜ r ≡ noTwo mayStand (from (recordAt (now (t .entry))) 0 n) ⌝ }
 {
-    let mut i: usize = 0;
-    while i < n {
-        if !alone(t, i, n) {
-            return false;
-        }
-        i += 1;
+    if !all_clear(t, true, n) {
+        return false;
     }
-    true
+    all_clear(t, false, n)
 }
 
 // Whether the bytes are a sound table.
@@ -216,10 +199,11 @@ pub fn sound(t: &[u8]) -> bool
     if 256 < n {
         return false;
     }
-    let s = setup_of(t);
+    if !rows_good(t, n, setup_of(t)) {
+        return false;
+    }
     let past = 176 + n * 153;
     good_header(t)
-        & rows_good(t, n, s)
         & no_two(t, n)
         & cells::all_zero(t, past, 39344 - past)
         & (last_of(t) < 0x1_0000_0000_0000)
