@@ -1,4 +1,6 @@
 // Bytes in a lent slice: numbers, copies, comparisons. Each write leaves the slice with one part put in.
+mod words; // words.rt: the same by whole words and blocks
+
 ghost use mathlib.Core.Path.{_≡_};
 ghost use Prim.Native.Nat.{_+_, _-_, _*_, _≤_, _<_, _^_};
 ghost use lib.Dec.{eqb};
@@ -16,6 +18,15 @@ pub fn get(t: &[u8], at: usize, n: usize) -> u64
     requires { ⌜ (at + n ≤ length (now t)) × (n ≤ 8) ⌝ }
     ensures { λ r. ⌜ (r ≡ numAt (now (t .entry)) at n) × (r < 2 ^ (8 * n)) ⌝ }
 {
+    if n == 8 {
+        return words::turned8(words::get8(t, at));
+    }
+    if n == 4 {
+        return words::turned4(words::get4(t, at));
+    }
+    if n == 2 {
+        return words::turned2(words::get2(t, at));
+    }
     let mut v: u64 = 0;
     let mut k: usize = 0;
     while k < n {
@@ -31,6 +42,18 @@ pub fn put(t: &mut [u8], at: usize, n: usize, v: u64)
     requires { ⌜ (at + n ≤ length (now t)) × (n ≤ 8) ⌝ }
     ensures { λ _. ⌜ now (t .exit) ≡ splice at (be n v) (now (t .entry)) ⌝ }
 {
+    if n == 8 {
+        words::put8(t, at, words::turned8(v));
+        return;
+    }
+    if n == 4 {
+        words::put4(t, at, words::turned4(v));
+        return;
+    }
+    if n == 2 {
+        words::put2(t, at, words::turned2(v));
+        return;
+    }
     let mut k: usize = 0;
     while k < n {
         let s = 8 * (n - (k + 1));
@@ -56,7 +79,9 @@ pub fn shift(t: &mut [u8], to: usize, from: usize, n: usize)
     requires { ⌜ (to ≤ from) × (from + n ≤ length (now t)) ⌝ }
     ensures { λ _. ⌜ now (t .exit) ≡ splice to (part from n (now (t .entry))) (now (t .entry)) ⌝ }
 {
-    let mut k: usize = 0;
+    let blocks = n / 16;
+    words::shift(t, to, from, blocks);
+    let mut k = 16 * blocks;
     while k < n {
         t[to + k] = t[from + k];
         k += 1;
@@ -90,6 +115,9 @@ pub fn same_bytes(t: &[u8], at: usize, s: &[u8]) -> bool
     requires { ⌜ at + length (now s) ≤ length (now t) ⌝ }
     ensures { λ r. ⌜ r ≡ sameBytes (part at (length (now (s .entry))) (now (t .entry))) (now (s .entry)) ⌝ }
 {
+    if 8 <= s.len() {
+        return words::same(t, at, s);
+    }
     let mut k: usize = 0;
     while k < s.len() {
         if t[at + k] != s[k] {
@@ -105,6 +133,9 @@ pub fn all_zero(t: &[u8], at: usize, n: usize) -> bool
     requires { ⌜ at + n ≤ length (now t) ⌝ }
     ensures { λ r. ⌜ r ≡ all (eqb 0) (part at n (now (t .entry))) ⌝ }
 {
+    if 32 <= n {
+        return words::all_zero(t, at, n);
+    }
     let mut k: usize = 0;
     while k < n {
         if 0 != t[at + k] {

@@ -1,3 +1,4 @@
+use borrow.Author.Needs.{needs}
 use mathlib.Core.Path.{_≡_, sym, _∙_}
 use Prim.Native.Nat.{_+_, _-_, _≤_}
 use native.Mathlib.Omega.{arith}
@@ -16,17 +17,23 @@ Inv-loop t at n k₀ k = (k ≤ n) × (all (eqb 0) (part at n t) ≡ all (eqb 0)
 abbrev μ-loop : tie.MeasureT-loop
 μ-loop t at n k₀ k = n - k
 
+all-zero-requires : tie.Need-all-zero-requires Inv-loop μ-loop
+all-zero-requires c κs = search needs
+
+returns : tie.Need-returns Inv-loop μ-loop
+returns c = c .all-zero .ensures
+
 loop-holds : tie.Need-loop-holds Inv-loop μ-loop
 loop-holds c = (omega arith, rw (add-zero, sub-zero))
 
-add-if1 : tie.Need-add-if1 Inv-loop μ-loop
-add-if1 c = search needs
+add-if2 : tie.Need-add-if2 Inv-loop μ-loop
+add-if2 c = search needs
 
-shared-slice-read-if1 : tie.Need-shared-slice-read-if1 Inv-loop μ-loop
-shared-slice-read-if1 c = search needs
+shared-slice-read-if2 : tie.Need-shared-slice-read-if2 Inv-loop μ-loop
+shared-slice-read-if2 c = search needs
 
-returns : tie.Need-returns Inv-loop μ-loop
-returns c = sym (c .before .before .before .loop .inv .1 ∙ part-turn _ _ _ _ _ (c .before .before .loop-test .taken) (search needs) (ne-eqb _ _ (c .if1 .taken)))
+returns-2 : tie.Need-returns-2 Inv-loop μ-loop
+returns-2 c = sym (c .before .before .before .loop .inv .1 ∙ part-turn _ _ _ _ _ (c .before .before .loop-test .taken) (search needs) (ne-eqb _ _ (c .if2 .taken)))
 
 add-k : tie.Need-add-k Inv-loop μ-loop
 add-k c = search needs
@@ -35,10 +42,10 @@ loop-less : tie.Need-loop-less Inv-loop μ-loop
 loop-less c = search needs
 
 loop-again : tie.Need-loop-again Inv-loop μ-loop
-loop-again c = (search needs, c .before .before .before .loop .inv .1 ∙ part-turn _ _ _ _ _ (c .before .before .loop-test .taken) (search needs) (eq-eqb _ _ (c .if1 .left)))
+loop-again c = (search needs, c .before .before .before .loop .inv .1 ∙ part-turn _ _ _ _ _ (c .before .before .loop-test .taken) (search needs) (eq-eqb _ _ (c .if2 .left)))
 
-returns-2 : tie.Need-returns-2 Inv-loop μ-loop
-returns-2 c = sym (c .before .loop .inv .1 ∙ part-end _ _ _ _ _ (c .loop-test .left))
+returns-3 : tie.Need-returns-3 Inv-loop μ-loop
+returns-3 c = sym (c .before .loop .inv .1 ∙ part-end _ _ _ _ _ (c .loop-test .left))
 
 pub all-zero-spec : {M : Type 1} → statement M
 all-zero-spec =
@@ -46,11 +53,13 @@ all-zero-spec =
     (tie.spec
     Inv-loop
     μ-loop
-    loop-holds
-    add-if1
-    shared-slice-read-if1
+    all-zero-requires
     returns
+    loop-holds
+    add-if2
+    shared-slice-read-if2
+    returns-2
     add-k
     loop-less
     loop-again
-    returns-2)
+    returns-3)

@@ -1,3 +1,4 @@
+use borrow.Author.Needs.{needs}
 use mathlib.Core.Path.{_≡_, sym, _∙_}
 use Prim.Native.Nat.{_+_, _-_, _≤_}
 use native.Mathlib.Omega.{arith}
@@ -15,20 +16,26 @@ Inv-loop t at s k₀ k = (k ≤ length s) × (sameBytes (part at (length s) t) s
 abbrev μ-loop : tie.MeasureT-loop
 μ-loop t at s k₀ k = length s - k
 
+same-requires : tie.Need-same-requires Inv-loop μ-loop
+same-requires c κs = search needs
+
+returns : tie.Need-returns Inv-loop μ-loop
+returns c = c .same .ensures
+
 loop-holds : tie.Need-loop-holds Inv-loop μ-loop
 loop-holds c = (omega arith, rw (add-zero, sub-zero))
 
-add-if1 : tie.Need-add-if1 Inv-loop μ-loop
-add-if1 c = search needs
+add-if2 : tie.Need-add-if2 Inv-loop μ-loop
+add-if2 c = search needs
 
-shared-slice-read-if1 : tie.Need-shared-slice-read-if1 Inv-loop μ-loop
-shared-slice-read-if1 c = search needs
+shared-slice-read-if2 : tie.Need-shared-slice-read-if2 Inv-loop μ-loop
+shared-slice-read-if2 c = search needs
 
-shared-slice-read-if1-2 : tie.Need-shared-slice-read-if1-2 Inv-loop μ-loop
-shared-slice-read-if1-2 c = search needs
+shared-slice-read-if2-2 : tie.Need-shared-slice-read-if2-2 Inv-loop μ-loop
+shared-slice-read-if2-2 c = search needs
 
-returns : tie.Need-returns Inv-loop μ-loop
-returns c = sym (c .before .before .before .before .loop .inv .1 ∙ same-stop _ _ _ _ _ (c .before .before .before .loop-test .taken) (search needs) (c .before .before .before .loop-test .taken) (c .if1 .taken))
+returns-2 : tie.Need-returns-2 Inv-loop μ-loop
+returns-2 c = sym (c .before .before .before .before .loop .inv .1 ∙ same-stop _ _ _ _ _ (c .before .before .before .loop-test .taken) (search needs) (c .before .before .before .loop-test .taken) (c .if2 .taken))
 
 add-k : tie.Need-add-k Inv-loop μ-loop
 add-k c = search needs
@@ -37,10 +44,10 @@ loop-less : tie.Need-loop-less Inv-loop μ-loop
 loop-less c = search needs
 
 loop-again : tie.Need-loop-again Inv-loop μ-loop
-loop-again c = (search needs, c .before .before .before .before .loop .inv .1 ∙ same-go _ _ _ _ _ (c .before .before .before .loop-test .taken) (search needs) (c .before .before .before .loop-test .taken) (c .if1 .left))
+loop-again c = (search needs, c .before .before .before .before .loop .inv .1 ∙ same-go _ _ _ _ _ (c .before .before .before .loop-test .taken) (search needs) (c .before .before .before .loop-test .taken) (c .if2 .left))
 
-returns-2 : tie.Need-returns-2 Inv-loop μ-loop
-returns-2 c = sym (c .before .loop .inv .1 ∙ same-end _ _ _ _ _ (c .loop-test .left) (c .loop-test .left))
+returns-3 : tie.Need-returns-3 Inv-loop μ-loop
+returns-3 c = sym (c .before .loop .inv .1 ∙ same-end _ _ _ _ _ (c .loop-test .left) (c .loop-test .left))
 
 pub same-bytes-spec : {M : Type 1} → statement M
 same-bytes-spec =
@@ -48,12 +55,14 @@ same-bytes-spec =
     (tie.spec
     Inv-loop
     μ-loop
-    loop-holds
-    add-if1
-    shared-slice-read-if1
-    shared-slice-read-if1-2
+    same-requires
     returns
+    loop-holds
+    add-if2
+    shared-slice-read-if2
+    shared-slice-read-if2-2
+    returns-2
     add-k
     loop-less
     loop-again
-    returns-2)
+    returns-3)

@@ -1,22 +1,28 @@
-use mathlib.Core.Path.{_≡_, refl}
-use Prim.Native.Nat.{_+_, _-_, _≤_}
-use native.Mathlib.Omega.{arith}
 use borrow.Author.Needs.{needs}
-use native.Mathlib.Nat.{add-zero, sub-zero}
+use mathlib.Core.Path.{_≡_, refl, _∙_}
+use Prim.Native.Nat.{_+_, _-_, _≤_}
+use borrow.Author.Needs.{needs}
 use lib.ListN.{length}
 use Rattle.rules.specs.Words.{part, splice}
 use Rattle.laws.specs.Parts.{turn, done, none-left, left-own}
+use Rattle.cells.proofs.Laws.{moved-first}
 use Rattle.cells.proofs.shift.Statement.{statement}
 use Rattle.cells.proofs.shift.Tie as tie
 
 abbrev Inv-loop : tie.InvT-loop
-Inv-loop t₀ to from n k₀ t k = (k ≤ n) × (length t ≡ length t₀) × (splice (to + k) (part (from + k) (n - k) t) t ≡ splice to (part from n t₀) t₀)
+Inv-loop t₀ to from n blocks k₀ t k = (k ≤ n) × (length t ≡ length t₀) × (splice (to + k) (part (from + k) (n - k) t) t ≡ splice (to + k₀) (part (from + k₀) (n - k₀) t₀) t₀)
 
 abbrev μ-loop : tie.MeasureT-loop
-μ-loop t₀ to from n k₀ t k = n - k
+μ-loop t₀ to from n blocks k₀ t k = n - k
+
+shift-requires : tie.Need-shift-requires Inv-loop μ-loop
+shift-requires c κs = search needs
+
+mul-k : tie.Need-mul-k Inv-loop μ-loop
+mul-k c = search needs
 
 loop-holds : tie.Need-loop-holds Inv-loop μ-loop
-loop-holds c = (omega arith, refl, rw (add-zero, add-zero, sub-zero))
+loop-holds c = (search needs, refl, refl)
 
 add-t : tie.Need-add-t Inv-loop μ-loop
 add-t c = search needs
@@ -44,7 +50,7 @@ same-length c = search needs
 
 returns : tie.Need-returns Inv-loop μ-loop
 unfolding part
-returns c = done _ _ _ _ (rw (none-left _ _ (c .loop-test .left))) (c .before .loop .inv .2)
+returns c = done _ _ _ _ (rw (none-left _ _ (c .loop-test .left))) (c .before .loop .inv .2) ∙ moved-first _ _ _ _ _ _ (search needs) (search needs) (search needs) (c .before .before .before .before .shift .ensures)
 
 pub shift-spec : {M : Type 1} → statement M
 shift-spec =
@@ -52,6 +58,8 @@ shift-spec =
     (tie.spec
     Inv-loop
     μ-loop
+    shift-requires
+    mul-k
     loop-holds
     add-t
     slice-read-t
