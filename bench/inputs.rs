@@ -1,111 +1,186 @@
-//! What is measured: tables that are dear to judge and to choose in, and the messages to them.
+//! What is measured: tables, and the messages to them.
 
-use crate::sides::{PLAIN, PROVED};
-use reference::{TableBytes, NEVER, RECORD_BYTES, SOLICIT, TABLE_BYTES};
+use crate::messages::{message, opening, real, Identity};
+use crate::sides::{Lengths, OWN, PLAIN, PROVED};
+use reference::prefix::Prefix;
+use reference::{TableBytes, REBIND, RECORD_BYTES, RELEASE, RENEW, REQUEST, SOLICIT, TABLE_BYTES};
 
 const POOL: u64 = 0x2001_0db8_0000_0000;
-const POOL_LENGTH: u8 = 32;
 const FIRST_RECORD: usize = 176;
-const NEW: u32 = 0xFFFF_FFFF;
+const FIRST_END: u64 = 2_000;
+const NEW: usize = 256;
+/// A pool of 4,096 prefixes of the standard length.
+const USUAL: Lengths = Lengths { pool: 48, shortest: 56, standard: 60 };
+const WIDE: Lengths = Lengths { pool: 32, shortest: 32, standard: 32 };
 
 /// One measured call: `pd_box_live` where the message is empty, else `pd_box_handle`.
 pub struct Input {
-    pub name: &'static str,
+    pub name: String,
     pub records: usize,
     pub table: Box<TableBytes>,
     pub message: Vec<u8>,
+    /// The refusal that it meets, 0 for an answer.
+    pub refusal: u64,
 }
 
-type Identity = (u32, Vec<u8>);
-
-/// Identity i by its IAID.
-fn by_iaid(i: usize) -> Identity {
-    (i as u32, vec![7; 14])
+/// A way to fill a table.
+struct World {
+    identities: (&'static str, fn(usize) -> Identity),
+    /// Record i of n.
+    order: (&'static str, fn(usize, usize) -> (u64, u8)),
+    lengths: Lengths,
 }
 
-/// Identity i by the first byte of 130.
-fn by_first_byte(i: usize) -> Identity {
+/// A real one with an IAID of its own, from the device's address as dhclient makes it.
+fn iaids(i: usize) -> Identity {
+    let Identity { duid, .. } = real(i);
+    let [.., a, b, c, d] = duid[..] else { unreachable!("14 bytes") };
+    Identity { iaid: u32::from_be_bytes([a, b, c, d]), duid }
+}
+
+/// 130 bytes, alike but for byte 120, in no order (and byte 119, for the one that isn't in the table).
+fn late(i: usize) -> Identity {
     let mut duid = vec![7; 130];
-    duid[0] = i as u8;
-    (1, duid)
+    duid[119] = (i == NEW) as u8;
+    duid[120] = (i as u8).wrapping_mul(97);
+    Identity { iaid: 1, duid }
 }
 
-/// Identity i by the last byte of 130.
-fn by_last_byte(i: usize) -> Identity {
-    let mut duid = vec![7; 130];
-    duid[129] = i as u8;
-    (1, duid)
+fn standard(place: usize) -> (u64, u8) {
+    (POOL | (place as u64) << (64 - USUAL.standard), USUAL.standard)
+}
+
+/// In the pool's order without a gap.
+fn packed(i: usize, _: usize) -> (u64, u8) {
+    standard(i)
+}
+
+/// In the pool's order, the first place free.
+fn ascending(i: usize, _: usize) -> (u64, u8) {
+    standard(i + 1)
+}
+
+fn descending(i: usize, n: usize) -> (u64, u8) {
+    standard(n - i)
+}
+
+fn shuffled(i: usize, n: usize) -> (u64, u8) {
+    standard(1 + i * 97 % n)
+}
+
+/// All of the pool, in its order and as evenly as can be: no length has a free place, so each one is tried; from the
+/// records' own length on every record stands in the way once, and before it the tries hit as late as can be.
+fn filled(i: usize, n: usize) -> (u64, u8) {
+    let places = n.next_power_of_two();
+    let length = WIDE.pool + places.trailing_zeros() as u8;
+    let first_wide = n - (places - n);
+    let wide = i.saturating_sub(first_wide);
+    (POOL | ((i + wide) as u64) << (64 - length), length - (i >= first_wide) as u8)
 }
 
 /// A started box, the same bytes on both sides.
-fn empty() -> Box<TableBytes> {
+fn empty(lengths: &Lengths) -> Box<TableBytes> {
     let mut table = Box::new([0; TABLE_BYTES]);
     let mut other = table.clone();
-    assert_eq!((PROVED.start)(&mut table, POOL, POOL_LENGTH), 0);
-    assert_eq!((PLAIN.start)(&mut other, POOL, POOL_LENGTH), 0);
+    assert_eq!((PROVED.start)(&mut table, POOL, lengths), 0);
+    assert_eq!((PLAIN.start)(&mut other, POOL, lengths), 0);
     assert!(table == other, "started otherwise");
     table
 }
 
-fn write_record(room: &mut [u8], identity: Identity, upper: u64, length: u8) {
-    let (iaid, duid) = identity;
+fn write_record(room: &mut [u8], identity: Identity, (upper, length): (u64, u8), end: u64) {
+    let duid = identity.duid;
     room[0] = duid.len() as u8;
-    room[1..5].copy_from_slice(&iaid.to_be_bytes());
+    room[1..5].copy_from_slice(&identity.iaid.to_be_bytes());
     room[5..13].copy_from_slice(&upper.to_be_bytes());
     room[13] = length;
-    room[15..23].copy_from_slice(&NEVER.to_be_bytes());
+    room[15..23].copy_from_slice(&end.to_be_bytes());
     room[23..23 + duid.len()].copy_from_slice(&duid);
 }
 
-/// Records that fill the pool, in its order and as evenly as can be: no length has a free place, so each one is tried;
-/// from the records' own length on every record stands in the way once, and before it the tries hit as late as can be.
-fn filled(records: usize, identity: fn(usize) -> Identity) -> Box<TableBytes> {
-    let mut table = empty();
-    table[8..10].copy_from_slice(&(records as u16).to_be_bytes());
-    let places = records.next_power_of_two();
-    let length = POOL_LENGTH + places.trailing_zeros() as u8;
-    let first_wide = records - (places - records);
-    let mut place = 0;
-    for (i, room) in table[FIRST_RECORD..].chunks_exact_mut(RECORD_BYTES).take(records).enumerate() {
-        let wide = i >= first_wide;
-        write_record(room, identity(i), POOL | place << (64 - length), length - wide as u8);
-        place += if wide { 2 } else { 1 };
+impl World {
+    fn table(&self, n: usize) -> Box<TableBytes> {
+        let mut table = empty(&self.lengths);
+        table[8..10].copy_from_slice(&(n as u16).to_be_bytes());
+        for (i, room) in table[FIRST_RECORD..].chunks_exact_mut(RECORD_BYTES).take(n).enumerate() {
+            write_record(room, (self.identities.1)(i), (self.order.1)(i, n), FIRST_END + i as u64);
+        }
+        table
     }
-    table
+
+    /// The message of a kind: from the identity in the middle, or from a new one.
+    fn message(&self, kind: &str, n: usize) -> Vec<u8> {
+        let new = (self.identities.1)(NEW);
+        let bound = (self.identities.1)(n / 2);
+        let prefix = |(upper, length): (u64, u8)| Prefix::new((upper as u128) << 64, length);
+        let own = || Some(prefix((self.order.1)(n / 2, n)));
+        match kind {
+            "live" => vec![],
+            "solicit-new" => message(SOLICIT, &new, OWN, None),
+            "solicit-bound" => message(SOLICIT, &bound, OWN, None),
+            "solicit-worst" => message(SOLICIT, &new, OWN, Some(prefix((POOL | 1 << (63 - WIDE.pool), WIDE.pool + 1)))),
+            "request-new" => message(REQUEST, &new, OWN, Some(prefix(standard(0)))),
+            "request-bound" => message(REQUEST, &bound, OWN, own()),
+            "renew" => message(RENEW, &bound, OWN, own()),
+            "rebind" => message(REBIND, &bound, OWN, own()),
+            "release" => message(RELEASE, &bound, OWN, own()),
+            "refused-5" => [message(RENEW, &bound, OWN, own()), vec![0, 0]].concat(),
+            "refused-7" => opening(SOLICIT, &new, OWN),
+            _ => unreachable!("a kind of `KINDS`"),
+        }
+    }
+
+    fn inputs(&self, kinds: &[&str]) -> Vec<Input> {
+        let each = |kind: &&str| sizes(kind).iter().map(|&n| self.input(kind, n)).collect::<Vec<Input>>();
+        kinds.iter().flat_map(each).collect()
+    }
+
+    fn input(&self, kind: &str, records: usize) -> Input {
+        let name = format!("{} {} {kind}", self.identities.0, self.order.0);
+        let refusal = kind.strip_prefix("refused-").map_or(0, |number| number.parse().expect("a number"));
+        Input { name, records, table: self.table(records), message: self.message(kind, records), refusal }
+    }
 }
 
-/// A Solicit with the hint that costs most: the pool's upper half, first hit by the record in the middle, and one bit
-/// longer than the pool.
-fn solicit(identity: Identity) -> Vec<u8> {
-    let (iaid, duid) = identity;
-    let mut message = vec![SOLICIT, 0, 0, 0];
-    message.extend([0, 1, 0, duid.len() as u8]);
-    message.extend(duid);
-    message.extend([0, 25, 0, 41]);
-    message.extend(iaid.to_be_bytes());
-    message.extend([0; 8]);
-    message.extend([0, 26, 0, 25, 0, 0, 0, 0, 0, 0, 0, 0, POOL_LENGTH + 1]);
-    message.extend((POOL | 1 << (63 - POOL_LENGTH)).to_be_bytes());
-    message.extend([0; 8]);
-    message
+/// A full table isn't walked by a choice, so the largest there has one record less.
+fn sizes(kind: &str) -> &'static [usize] {
+    match kind {
+        "live" => &[0, 1, 16, 64, 255, 256],
+        "refused-5" | "refused-7" => &[0, 16, 64, 256],
+        "solicit-new" | "request-new" => &[0, 16, 64, 255],
+        "solicit-worst" => &[16, 64, 255],
+        _ => &[1, 16, 64, 256],
+    }
 }
 
-fn input(name: &'static str, records: usize, identity: fn(usize) -> Identity, message: Vec<u8>) -> Input {
-    Input { name, records, table: filled(records, identity), message }
-}
+const KINDS: [&str; 10] = [
+    "live",
+    "solicit-new",
+    "solicit-bound",
+    "request-new",
+    "request-bound",
+    "renew",
+    "rebind",
+    "release",
+    "refused-5",
+    "refused-7",
+];
 
-/// Everything that is measured. A full table isn't walked by a choice, so the largest there has one record less.
+/// Everything that is measured.
 pub fn inputs() -> Vec<Input> {
     let mut all = Vec::new();
-    for n in [16, 64, 256] {
-        all.push(input("sound-iaids", n, by_iaid, vec![]));
-        all.push(input("sound-early", n, by_first_byte, vec![]));
-        all.push(input("sound-late", n, by_last_byte, vec![]));
+    let identities: [(&str, fn(usize) -> Identity); 3] = [("real", real), ("iaids", iaids), ("late", late)];
+    let orders: [(&str, fn(usize, usize) -> (u64, u8)); 3] =
+        [("ascending", ascending), ("descending", descending), ("shuffled", shuffled)];
+    for identities in identities {
+        for order in orders {
+            let every = order.0 == "ascending" && identities.0 != "iaids";
+            let kinds = if every { &KINDS[..] } else { &["live", "renew"] };
+            all.extend(World { identities, order, lengths: USUAL }.inputs(kinds));
+        }
     }
-    for n in [16, 64, 255] {
-        all.push(input("live", n, by_iaid, vec![]));
-        all.push(input("bound", n, by_iaid, solicit(by_iaid(n - 1))));
-        all.push(input("new", n, by_iaid, solicit((NEW, vec![7; 14]))));
-    }
+    let identities = identities[0];
+    all.extend(World { identities, order: ("packed", packed), lengths: USUAL }.inputs(&["live", "solicit-new"]));
+    all.extend(World { identities, order: ("filled", filled), lengths: WIDE }.inputs(&["live", "solicit-worst"]));
     all
 }

@@ -1,34 +1,85 @@
-# From lines `INPUT RECORDS SIDE VALUE` to the table of ratios.
-{ value[$1, $2, $3] = $4 }
+# From lines `IDENTITIES ORDER KIND RECORDS SIDE VALUE`, a value being of so many calls, to the tables of ratios.
+$5 == "memcpy" { copy = $6 / calls }
+{ value[$1, $2, $3, $4, $5] = $6 / calls }
 
-# What an input costs beyond another.
-function cost(what, less, n, side) { return value[what, n, side] - (less ? value[less, n, side] : 0) }
+# The number of records in column k: 0 or 1, 16, 64, and 256 or 255.
+function size(what, k,    n, some, i) {
+    split(k == 1 ? "0 1" : k == 2 ? "16" : k == 3 ? "64" : "256 255", some, " ")
+    for (i = 1; i in some; i++) if ((what, some[i], "proved") in value) return some[i]
+    return -1
+}
 
-function ratio(x) { return sprintf(x < 100 ? "%.2f" : "%.0f", x) }
+# What a call costs, less the copy made before it; less that of `pd_box_live` where only the rest is asked for.
+function cost(world, kind, k, side, rest,    n) {
+    n = size(world SUBSEP kind, k)
+    if (n < 0) return ""
+    return value[world, kind, n, side] - (rest ? value[world, "live", n, side] : copy)
+}
 
-function growth(now, before) { return before ? sprintf("%.1f", now / before) : "" }
+function show(x) { return x == "" ? "" : sprintf(x < 10 ? "%.2f" : x < 100 ? "%.1f" : "%.0f", x) }
 
-function rows(title, what, less, largest,    k, n, a, b, a0, b0) {
-    a0 = b0 = 0
-    for (k = 1; k <= 3; k++) {
-        n = k == 1 ? 16 : k == 2 ? 64 : largest
-        a = cost(what, less, n, "proved")
-        b = cost(what, less, n, "plain")
-        printf "| %s | %d | %s | %s | %s | ", title, n, ratio(a / copy), ratio(b / copy), ratio(a / b)
-        printf "%s | %s |\n", growth(a, a0), growth(b, b0)
-        a0 = a
-        b0 = b
+function over(a, b) { return a == "" ? "" : a / b }
+
+# Four cells: of a side in copies of the table, of one side over another, or of soundness in percent.
+function cells(world, kind, a, b, rest,    k, line, x, n) {
+    for (k = 1; k <= 4; k++) {
+        x = cost(world, kind, k, a, rest)
+        if (b == "share") {
+            n = size(world SUBSEP kind, k)
+            x = n < 0 ? "" : 100 * (value[world, "live", n, a] - copy) / x
+        } else x = over(x, b ? cost(world, kind, k, b, rest) : copy)
+        line = line " " show(x) " |"
+    }
+    return line
+}
+
+function head(first, one, two, three,    line) {
+    line = "| " first " | " one ": few | 16 | 64 | most | " two ": few | 16 | 64 | most |"
+    if (three) line = line " " three ": few | 16 | 64 | most |"
+    print "\n" line
+    gsub(/[^|]+/, "---", line)
+    print line
+}
+
+function messages(world, kinds, titles,    i, kind, title) {
+    split(kinds, kind, ",")
+    split(titles, title, ",")
+    head("message", "proved ÷ memcpy", "soundness in it, %")
+    for (i = 1; i in kind; i++)
+        print "| " title[i] " |" cells(world, kind[i], "proved") cells(world, kind[i], "proved", "share")
+    head("message", "proved ÷ plain", "proved ÷ sorted")
+    for (i = 1; i in kind; i++)
+        print "| " title[i] " |" cells(world, kind[i], "proved", "plain") cells(world, kind[i], "proved", "sorted")
+}
+
+function soundness(    i, j, who, order, world) {
+    split("real iaids late", who, " ")
+    split("ascending descending shuffled", order, " ")
+    head("identities, order", "proved ÷ memcpy", "proved ÷ plain", "proved ÷ sorted")
+    for (i = 1; i <= 3; i++) for (j = 1; j <= 3; j++) {
+        world = who[i] SUBSEP order[j]
+        print "| " who[i] ", " order[j] " |" cells(world, "live", "proved") cells(world, "live", "proved", "plain") \
+            cells(world, "live", "proved", "sorted")
     }
 }
 
+function choice(title, world, kind) {
+    print "| " title " |" cells(world, kind, "proved", "", "rest") cells(world, kind, "proved", "plain", "rest")
+}
+
 END {
-    copy = value["copy", 0, "memcpy"]
-    printf "In %s; a copy of the table is %d.\n\n", unit, copy
-    print "| What | Records | proved ÷ memcpy | plain ÷ memcpy | proved ÷ plain | growth, proved | growth, plain |"
-    print "|---|---|---|---|---|---|---|"
-    rows("soundness, IAIDs differ", "sound-iaids", "", 256)
-    rows("soundness, one IAID, DUIDs differ in the first byte", "sound-early", "", 256)
-    rows("soundness, one IAID, DUIDs differ in the last of 130 bytes", "sound-late", "", 256)
-    rows("the worst choice", "new", "live", 255)
-    rows("the same Solicit from a bound identity", "bound", "live", 255)
+    kinds = "solicit-new,solicit-bound,request-new,request-bound,renew,rebind,release,refused-5,refused-7"
+    titles = "Solicit: new,Solicit: bound,Request: new,Request: bound,Renew,Rebind,Release,refused with 5,refused with 7"
+    printf "In %s; a copy of the table is %d. Few records are 0 or 1, most are 256 or 255.\n", unit, copy
+    print "\nMessages, identities of one maker"
+    messages("real" SUBSEP "ascending", kinds, titles)
+    print "\nMessages, DUIDs of 130 bytes that differ late"
+    messages("late" SUBSEP "ascending", kinds, titles)
+    print "\nSoundness by identities and by the records' order"
+    soundness()
+    print "\nThe choice of a prefix, less soundness"
+    head("Solicit from a new identity", "proved ÷ memcpy", "proved ÷ plain")
+    choice("the first place is free", "real" SUBSEP "ascending", "solicit-new")
+    choice("the first free place is the last", "real" SUBSEP "packed", "solicit-new")
+    choice("the worst", "real" SUBSEP "filled", "solicit-worst")
 }

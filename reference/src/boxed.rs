@@ -54,7 +54,18 @@ pub fn pd_box_start(
 
 /// Handles a message and writes the answer. Gives 9, 1, 2, 3, 4, 5, 6, 7, 8 in that order.
 pub fn pd_box_handle(table: &mut TableBytes, now: u64, message: &[u8], answer: &mut [u8]) -> u64 {
-    let Some(mut kept) = Table::read(table) else {
+    handle_with(Table::read, table, now, message, answer)
+}
+
+/// The same with another reader of tables, to measure it.
+pub fn handle_with(
+    read_table: fn(&TableBytes) -> Option<Table>,
+    table: &mut TableBytes,
+    now: u64,
+    message: &[u8],
+    answer: &mut [u8],
+) -> u64 {
+    let Some(mut kept) = read_table(table) else {
         return refused(9);
     };
     if now < kept.last || now >= TIME_LIMIT {

@@ -23,6 +23,7 @@ arsurimo box --pool PREFIX/LENGTH (--interface NAME | --listen [ADDRESS]:PORT --
   --valid SECONDS        valid lifetime, at least the preferred one (7200)
   --exclude              excludes the last /64 of a delegation for routers that ask for PD Exclude
   --speed N              its clock runs N times as fast, to try things out (1)
+  --quiet                no line for each message
 
 Prints a line for each message. SIGUSR1: the table and the refusals so far. SIGINT or SIGTERM: stops, and prints them too.
 The table is lost at a stop: start it again only when all that it lent has ended.
@@ -37,12 +38,13 @@ pub fn command(args: &mut Args) -> Result<(), Failure> {
         return Ok(());
     }
     let settings = settings(args)?;
+    let quiet = args.flag("--quiet");
     let device = Device::open(args, BOX_PORT)?;
     device.link.join_boxes().map_err(Failure::Failed)?;
     let end = BoxEnd::start(&settings, &device.duid, device.clock.now());
     let end = end.map_err(|number| Failure::Usage(format!("{} ({number}): {RANGES}", words::refusal(number))))?;
     println!("the box lends of {}; its DUID is {}", pool_text(&settings), crate::hex::text(&device.duid));
-    Serving { device, end, refusals: Refusals::default() }.run().map_err(Failure::Failed)
+    Serving { device, end, refusals: Refusals::default(), quiet }.run().map_err(Failure::Failed)
 }
 
 fn settings(args: &mut Args) -> Result<Settings, Failure> {
@@ -79,6 +81,7 @@ struct Serving {
     device: Device,
     end: BoxEnd,
     refusals: Refusals,
+    quiet: bool,
 }
 
 impl Serving {
@@ -101,14 +104,18 @@ impl Serving {
         let now = self.device.clock.now();
         match self.end.handle(now, message) {
             Ok(answer) => {
-                println!("{now:>6}  {from} {}; answered {}", said(message), said(&answer));
+                if !self.quiet {
+                    println!("{now:>6}  {from} {}; answered {}", said(message), said(&answer));
+                }
                 if let Err(why) = self.device.link.send(&answer, from) {
                     eprintln!("arsurimo: {why}");
                 }
             }
             Err(number) => {
                 self.refusals.add(number);
-                println!("{now:>6}  {from} {}; refused with {number} ({})", said(message), words::refusal(number));
+                if !self.quiet {
+                    println!("{now:>6}  {from} {}; refused with {number} ({})", said(message), words::refusal(number));
+                }
             }
         }
     }
