@@ -1,59 +1,51 @@
 // Whether it is plain at a first look that no two numbers are the same: a cheap answer that is nearly always yes.
 ghost use mathlib.Core.Path.{_≡_};
-ghost use mathlib.Core.Bool.{true, not, _&&_, _||_};
-ghost use Prim.Native.Nat.{_≤_, _<_};
-ghost use lib.Dec.{eqb};
+ghost use mathlib.Core.Bool.{true};
+ghost use Prim.Native.Nat.{_+_, _≤_, _<_};
 ghost use lib.ListN.{length};
-ghost use Rattle.distinct.specs.Distinct.{at, fresh, Distinct};
+ghost use Rattle.distinct.specs.Distinct.{at, Distinct, Free};
 
-// How many numbers are looked for among the earlier ones before the answer is no.
-const MOST: usize = 32;
-
-// Whether k is none of the first n numbers.
-fn fresh(keys: &[u64], n: usize, k: u64) -> bool
-    requires { ⌜ n ≤ length (now keys) ⌝ }
-    ensures { λ r. ⌜ r ≡ fresh (now (keys .entry)) n k ⌝ }
+// The mark at place p.
+fn mark_at(marks: &[u8], p: usize) -> usize
+    requires { ⌜ p < length (now marks) ⌝ }
+    ensures { λ r. ⌜ (r ≡ at (now (marks .entry)) p) × (r < 256) ⌝ }
 {
-    let mut i: usize = 0;
-    while i < n {
-        if keys[i] == k {
-            return false;
+    cells::wide(marks[p]) as usize
+}
+
+// The first free one of the eight places from s; 2048 where k is marked before it, or none is free.
+fn spot(keys: &[u64], marks: &[u8], s: usize, k: u64) -> usize
+    requires { ⌜ (256 ≤ length (now keys)) × (s + 8 ≤ length (now marks)) × (length (now marks) ≡ 2048) ⌝ }
+    ensures { λ r. ⌜ (r < 2048 → Free (now (keys .entry)) (now (marks .entry)) s k r) ⌝ }
+{
+    let mut p = s;
+    while p < s + 8 {
+        let mark = mark_at(marks, p);
+        if mark == 0 {
+            return p;
         }
-        i += 1;
+        if keys[mark - 1] == k {
+            return 2048;
+        }
+        p += 1;
     }
-    true
+    2048
 }
 
-// Whether number i may be one of the earlier ones: not where its mark is 0.
-fn doubtful(keys: &[u64], i: usize, mark: u8, met: usize) -> bool
-    requires { ⌜ i < length (now keys) ⌝ }
-    ensures { λ r. ⌜ r ≡ not (eqb mark 0) && (eqb met 32 || not (fresh (now (keys .entry)) i (at (now (keys .entry)) i))) ⌝ }
-{
-    if mark == 0 {
-        return false;
-    }
-    let k = keys[i];
-    (met == MOST) | !fresh(keys, i, k)
-}
-
-// Whether no two of the first n numbers are the same, as far as a look tells: each number marks one of 2,039 places, and only
-// where the place is marked already it is looked for among the earlier ones.
+// Whether no two of the first n numbers are the same, as far as a look tells.
 pub fn plain(keys: &[u64], n: usize) -> bool
-    requires { ⌜ n ≤ length (now keys) ⌝ }
+    requires { ⌜ (n ≤ 256) × (256 ≤ length (now keys)) ⌝ }
     ensures { λ r. ⌜ (r ≡ true → Distinct (now (keys .entry)) n) ⌝ }
 {
-    let mut marks = [0u8; 2039];
-    let mut met: usize = 0;
+    let mut marks = [0u8; 2048];
     let mut i: usize = 0;
     while i < n {
         let k = keys[i];
-        let s = (k % 2039) as usize;
-        let mark = marks[s];
-        if doubtful(keys, i, mark, met) {
+        let p = spot(keys, &marks, (k % 2039) as usize, k);
+        if 2048 <= p {
             return false;
         }
-        met += mark as usize;
-        marks[s] = 1;
+        marks[p] = ((i + 1) % 256) as u8;
         i += 1;
     }
     true

@@ -1,24 +1,21 @@
 -- `plain`: the first i numbers are marked, and no two of them are the same.
+use mathlib.Core.Path.{refl}
 use Prim.Native.Nat.{_-_, _≤_}
 use native.Mathlib.Omega.{arith}
 use borrow.Author.Needs.{needs, fits-under}
-use Rattle.distinct.proofs.Laws.{Marked, none-marked, place-below, mark-small, counted, one-marked}
 use Rattle.laws.specs.Tests.{false-true}
-use mathlib.Core.Path.{sym, _∙_}
+use Rattle.distinct.proofs.Laws.{Marked, none-marked, byte-below, spot-asks, one-marked}
 use Rattle.distinct.proofs.plain.Statement.{statement}
 use Rattle.distinct.proofs.plain.Tie as tie
-use Rattle.distinct.proofs.plain.Reads as reads
-use Rattle.distinct.proofs.plain.Lts as lts
-use Rattle.distinct.proofs.doubtful.Reads as doubtful-reads
 
 abbrev Inv-loop : tie.InvT-loop
-Inv-loop keys n marks₀ met₀ i₀ marks met i = (i ≤ n) × (met ≤ 32) × Marked keys marks i
+Inv-loop keys n marks₀ i₀ marks i = (i ≤ n) × Marked keys marks i
 
 abbrev μ-loop : tie.MeasureT-loop
-μ-loop keys n marks₀ met₀ i₀ marks met i = n - i
+μ-loop keys n marks₀ i₀ marks i = n - i
 
 loop-holds : tie.Need-loop-holds Inv-loop μ-loop
-loop-holds c = (omega arith, omega arith, none-marked _)
+loop-holds c = (omega arith, none-marked _)
 
 mul-k : tie.Need-mul-k Inv-loop μ-loop
 mul-k c = search needs
@@ -26,23 +23,23 @@ mul-k c = search needs
 shared-slice-read-k : tie.Need-shared-slice-read-k Inv-loop μ-loop
 shared-slice-read-k c = search needs
 
-array-read-mark : tie.Need-array-read-mark Inv-loop μ-loop
-array-read-mark c = place-below _
+slice-aggregate-spot : tie.Need-slice-aggregate-spot Inv-loop μ-loop
+slice-aggregate-spot c = let z = c .before .before .before .loop .inv .1 .size in search needs
 
-doubtful-requires : tie.Need-doubtful-requires Inv-loop μ-loop
-doubtful-requires c κs = search needs
+spot-requires : tie.Need-spot-requires Inv-loop μ-loop
+spot-requires c κs = spot-asks _ _ _ (search needs) (c .before .before .before .loop .inv .1)
 
 returns : tie.Need-returns Inv-loop μ-loop
 returns c e = absurd (false-true e)
 
-cast-met : tie.Need-cast-met Inv-loop μ-loop
-cast-met c = fits-under _ _ 2 (mark-small (c .before .before .before .before .loop .inv .2) _) tt
+add-marks : tie.Need-add-marks Inv-loop μ-loop
+add-marks c = search needs
 
-add-met : tie.Need-add-met Inv-loop μ-loop
-add-met c = let z = counted _ _ _ _ (c .before .before .before .before .loop .inv .2) (sym (c .before .doubtful .ensures) ∙ c .if1 .left) (c .before .before .before .before .loop .inv .1) in search needs
+cast-marks : tie.Need-cast-marks Inv-loop μ-loop
+cast-marks c = fits-under _ _ 256 (byte-below _) tt
 
 array-write-marks : tie.Need-array-write-marks Inv-loop μ-loop
-array-write-marks c = place-below _
+array-write-marks c = search needs
 
 add-i : tie.Need-add-i Inv-loop μ-loop
 add-i c = search needs
@@ -51,10 +48,10 @@ loop-less : tie.Need-loop-less Inv-loop μ-loop
 loop-less c = search needs
 
 loop-again : tie.Need-loop-again Inv-loop μ-loop
-loop-again c = (search needs, counted _ _ _ _ (c .before .before .before .before .loop .inv .2) (sym (c .before .doubtful .ensures) ∙ c .if1 .left) (c .before .before .before .before .loop .inv .1), one-marked _ _ _ (c .before .before .before .before .loop .met) (c .before .before .before .before .loop .inv .2) (sym (c .before .doubtful .ensures) ∙ c .if1 .left))
+loop-again c = (search needs, one-marked _ _ _ _ (search needs) (c .before .before .before .before .before .loop .inv .1) (c .before .spot .ensures (search needs)) _ _ refl refl)
 
 returns-2 : tie.Need-returns-2 Inv-loop μ-loop
-returns-2 c e x y h g = c .before .loop .inv .2 .apart x y h (omega arith)
+returns-2 c e x y h g = c .before .loop .inv .1 .apart x y h (omega arith)
 
 pub plain-spec : {M : Type 1} → statement M
 plain-spec =
@@ -65,11 +62,11 @@ plain-spec =
     loop-holds
     mul-k
     shared-slice-read-k
-    array-read-mark
-    doubtful-requires
+    slice-aggregate-spot
+    spot-requires
     returns
-    cast-met
-    add-met
+    add-marks
+    cast-marks
     array-write-marks
     add-i
     loop-less
