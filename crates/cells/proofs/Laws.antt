@@ -220,11 +220,23 @@ module _ (t : List ℕ) (at : ℕ) where
       let e : at + i + a ≡ at + (i + a) = omega arith in
       sym (zero-join t (at + i) a b refl refl) ∙ ap (λ (j : ℕ). zeros i a && all (eqb 0) (part j b t)) e
 
-  pub zero-turn : (m k : ℕ) {x : Bool} → k + 32 ≤ m → x ≡ zeros k 32 → zeros k (m - k) ≡ x && zeros (k + 32) (m - (k + 32))
-  zero-turn m k h e = turn zeros m 32 (λ i a b q. zeros-split i a b) k h e
+  module _ (w m : ℕ) where
+    pub zero-turn : (k : ℕ) {x : Bool} → k + w ≤ m → x ≡ zeros k w → zeros k (m - k) ≡ x && zeros (k + w) (m - (k + w))
+    zero-turn k h e = turn zeros m w (λ i a b q. zeros-split i a b) k h e
 
-  pub zero-last : (m k : ℕ) {x : Bool} → k ≤ m → 32 ≤ m → m - 32 ≤ k → x ≡ zeros (m - 32) 32 → all (eqb 0) (part at m t) ≡ zeros k (m - k) → x ≡ all (eqb 0) (part at m t)
-  zero-last m k h g l e q = last zeros m 32 (λ i a b p. zeros-split i a b) k h g l e (rw add-zero) q
+    pub zero-last : (k : ℕ) {x : Bool} → k ≤ m → w ≤ m → m - w ≤ k → x ≡ zeros (m - w) w → all (eqb 0) (part at m t) ≡ zeros k (m - k) → x ≡ all (eqb 0) (part at m t)
+    zero-last k h g l e q = last zeros m w (λ i a b p. zeros-split i a b) k h g l e (rw add-zero) q
+
+    -- the first block and the last one, where there is no room for a third
+    pub zero-ends : {x y : Bool} → w ≤ m → m ≤ w + w → x ≡ all (eqb 0) (part at w t) → y ≡ zeros (m - w) w → x && y ≡ all (eqb 0) (part at m t)
+    zero-ends {x} {y} h g e f = by x (all-first ∙ ap (λ z. z && zeros w (m - w)) (sym e))
+      where
+        all-first : all (eqb 0) (part at m t) ≡ all (eqb 0) (part at w t) && zeros w (m - w)
+        all-first = let c : w + (m - w) ≡ m = omega arith in ap (λ (n : ℕ). all (eqb 0) (part at n t)) (sym c) ∙ sym (zero-join t at w (m - w) refl refl)
+
+        by : (b : Bool) → all (eqb 0) (part at m t) ≡ b && zeros w (m - w) → b && y ≡ all (eqb 0) (part at m t)
+        by true q = zero-last w h h (omega arith) f q
+        by false q = sym q
 
   module _ (s : List ℕ) where
     abbrev sames : ℕ → ℕ → Bool

@@ -133,8 +133,11 @@ pub fn all_zero(t: &[u8], at: usize, n: usize) -> bool
     requires { ⌜ at + n ≤ length (now t) ⌝ }
     ensures { λ r. ⌜ r ≡ all (eqb 0) (part at n (now (t .entry))) ⌝ }
 {
-    if 32 <= n {
+    if 64 <= n {
         return words::all_zero(t, at, n);
+    }
+    if 8 <= n {
+        return words::few_zero(t, at, n);
     }
     let mut k: usize = 0;
     while k < n {

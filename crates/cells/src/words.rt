@@ -110,20 +110,41 @@ fn zero32(t: &[u8], at: usize) -> bool
     zero16(t, at) & zero16(t, at + 16)
 }
 
-// Whether the n bytes from `at` are zero, where n is at least 32. The last 32 may be some that were looked at before.
+fn zero64(t: &[u8], at: usize) -> bool
+    requires { ⌜ at + 64 ≤ length (now t) ⌝ }
+    ensures { λ r. ⌜ r ≡ all (eqb 0) (part at 64 (now (t .entry))) ⌝ }
+{
+    zero32(t, at) & zero32(t, at + 32)
+}
+
+// Whether the n bytes from `at` are zero, where n is at least 64. The last 64 may be some that were looked at before.
 pub fn all_zero(t: &[u8], at: usize, n: usize) -> bool
-    requires { ⌜ (32 ≤ n) × (at + n ≤ length (now t)) ⌝ }
+    requires { ⌜ (64 ≤ n) × (at + n ≤ length (now t)) ⌝ }
     ensures { λ r. ⌜ r ≡ all (eqb 0) (part at n (now (t .entry))) ⌝ }
 {
-    let last = n - 32;
+    let last = n - 64;
     let mut k: usize = 0;
     while k < last {
-        if !zero32(t, at + k) {
+        if !zero64(t, at + k) {
             return false;
         }
-        k += 32;
+        k += 64;
     }
-    zero32(t, at + last)
+    zero64(t, at + last)
+}
+
+// The same for 8 to 64 bytes: the first and the last block of a size that leaves nothing between.
+pub fn few_zero(t: &[u8], at: usize, n: usize) -> bool
+    requires { ⌜ (8 ≤ n) × (n ≤ 64) × (at + n ≤ length (now t)) ⌝ }
+    ensures { λ r. ⌜ r ≡ all (eqb 0) (part at n (now (t .entry))) ⌝ }
+{
+    if 32 <= n {
+        return zero32(t, at) & zero32(t, at + (n - 32));
+    }
+    if 16 <= n {
+        return zero16(t, at) & zero16(t, at + (n - 16));
+    }
+    zero8(t, at) & zero8(t, at + (n - 8))
 }
 
 // Whether the bytes from `at` are those of s, which has at least eight. The last eight may be some that were compared before.

@@ -1,4 +1,3 @@
-use borrow.Author.Needs.{needs}
 use mathlib.Core.Path.{_≡_, sym, _∙_}
 use Prim.Native.Nat.{_+_, _-_, _≤_}
 use native.Mathlib.Omega.{arith}
@@ -23,17 +22,23 @@ all-zero-requires c κs = search needs
 returns : tie.Need-returns Inv-loop μ-loop
 returns c = c .all-zero .ensures
 
+few-zero-requires : tie.Need-few-zero-requires Inv-loop μ-loop
+few-zero-requires c κs = search needs
+
+returns-2 : tie.Need-returns-2 Inv-loop μ-loop
+returns-2 c = c .few-zero .ensures
+
 loop-holds : tie.Need-loop-holds Inv-loop μ-loop
 loop-holds c = (omega arith, rw (add-zero, sub-zero))
 
-add-if2 : tie.Need-add-if2 Inv-loop μ-loop
-add-if2 c = search needs
+add-if3 : tie.Need-add-if3 Inv-loop μ-loop
+add-if3 c = search needs
 
-shared-slice-read-if2 : tie.Need-shared-slice-read-if2 Inv-loop μ-loop
-shared-slice-read-if2 c = search needs
+shared-slice-read-if3 : tie.Need-shared-slice-read-if3 Inv-loop μ-loop
+shared-slice-read-if3 c = search needs
 
-returns-2 : tie.Need-returns-2 Inv-loop μ-loop
-returns-2 c = sym (c .before .before .before .loop .inv .1 ∙ part-turn _ _ _ _ _ (c .before .before .loop-test .taken) (search needs) (ne-eqb _ _ (c .if2 .taken)))
+returns-3 : tie.Need-returns-3 Inv-loop μ-loop
+returns-3 c = sym (c .before .before .before .loop .inv .1 ∙ part-turn _ _ _ _ _ (c .before .before .loop-test .taken) (search needs) (ne-eqb _ _ (c .if3 .taken)))
 
 add-k : tie.Need-add-k Inv-loop μ-loop
 add-k c = search needs
@@ -42,10 +47,10 @@ loop-less : tie.Need-loop-less Inv-loop μ-loop
 loop-less c = search needs
 
 loop-again : tie.Need-loop-again Inv-loop μ-loop
-loop-again c = (search needs, c .before .before .before .loop .inv .1 ∙ part-turn _ _ _ _ _ (c .before .before .loop-test .taken) (search needs) (eq-eqb _ _ (c .if2 .left)))
+loop-again c = (search needs, c .before .before .before .loop .inv .1 ∙ part-turn _ _ _ _ _ (c .before .before .loop-test .taken) (search needs) (eq-eqb _ _ (c .if3 .left)))
 
-returns-3 : tie.Need-returns-3 Inv-loop μ-loop
-returns-3 c = sym (c .before .loop .inv .1 ∙ part-end _ _ _ _ _ (c .loop-test .left))
+returns-4 : tie.Need-returns-4 Inv-loop μ-loop
+returns-4 c = sym (c .before .loop .inv .1 ∙ part-end _ _ _ _ _ (c .loop-test .left))
 
 pub all-zero-spec : {M : Type 1} → statement M
 all-zero-spec =
@@ -55,11 +60,13 @@ all-zero-spec =
     μ-loop
     all-zero-requires
     returns
-    loop-holds
-    add-if2
-    shared-slice-read-if2
+    few-zero-requires
     returns-2
+    loop-holds
+    add-if3
+    shared-slice-read-if3
+    returns-3
     add-k
     loop-less
     loop-again
-    returns-3)
+    returns-4)

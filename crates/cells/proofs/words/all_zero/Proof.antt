@@ -22,14 +22,14 @@ sub-last c = search needs
 loop-holds : tie.Need-loop-holds Inv-loop μ-loop
 loop-holds c = (omega arith, rw (add-zero, sub-zero))
 
-add-zero32 : tie.Need-add-zero32 Inv-loop μ-loop
-add-zero32 c = search needs
+add-zero64 : tie.Need-add-zero64 Inv-loop μ-loop
+add-zero64 c = search needs
 
-zero32-requires : tie.Need-zero32-requires Inv-loop μ-loop
-zero32-requires c κs = search needs
+zero64-requires : tie.Need-zero64-requires Inv-loop μ-loop
+zero64-requires c κs = search needs
 
 returns : tie.Need-returns Inv-loop μ-loop
-returns c = sym (c .before .before .before .loop .inv .1 ∙ zero-turn _ _ _ _ (search needs) (sym (not-true _ (c .if1 .taken)) ∙ c .before .zero32 .ensures))
+returns c = sym (c .before .before .before .loop .inv .1 ∙ zero-turn _ _ 64 _ _ (search needs) (sym (not-true _ (c .if1 .taken)) ∙ c .before .zero64 .ensures))
 
 add-k : tie.Need-add-k Inv-loop μ-loop
 add-k c = search needs
@@ -38,16 +38,16 @@ loop-less : tie.Need-loop-less Inv-loop μ-loop
 loop-less c = search needs
 
 loop-again : tie.Need-loop-again Inv-loop μ-loop
-loop-again c = (search needs, c .before .before .before .loop .inv .1 ∙ zero-turn _ _ _ _ (search needs) (sym (not-false _ (c .if1 .left)) ∙ c .before .zero32 .ensures))
+loop-again c = (search needs, c .before .before .before .loop .inv .1 ∙ zero-turn _ _ 64 _ _ (search needs) (sym (not-false _ (c .if1 .left)) ∙ c .before .zero64 .ensures))
 
-add-zero32-2 : tie.Need-add-zero32-2 Inv-loop μ-loop
-add-zero32-2 c = search needs
+add-zero64-2 : tie.Need-add-zero64-2 Inv-loop μ-loop
+add-zero64-2 c = search needs
 
-zero32-requires-2 : tie.Need-zero32-requires-2 Inv-loop μ-loop
-zero32-requires-2 c κs = search needs
+zero64-requires-2 : tie.Need-zero64-requires-2 Inv-loop μ-loop
+zero64-requires-2 c κs = search needs
 
 returns-2 : tie.Need-returns-2 Inv-loop μ-loop
-returns-2 c = zero-last _ _ _ _ (c .before .before .loop .inv .0) (search needs) (c .before .loop-test .left) (c .zero322 .ensures) (c .before .before .loop .inv .1)
+returns-2 c = zero-last _ _ 64 _ _ (c .before .before .loop .inv .0) (search needs) (c .before .loop-test .left) (c .zero642 .ensures) (c .before .before .loop .inv .1)
 
 pub all-zero-spec : {M : Type 1} → statement M
 all-zero-spec =
@@ -57,12 +57,12 @@ all-zero-spec =
     μ-loop
     sub-last
     loop-holds
-    add-zero32
-    zero32-requires
+    add-zero64
+    zero64-requires
     returns
     add-k
     loop-less
     loop-again
-    add-zero32-2
-    zero32-requires-2
+    add-zero64-2
+    zero64-requires-2
     returns-2)
