@@ -2,7 +2,7 @@
 --   setup-read, header-read                         the settings as numbers, and what is asked of them
 --   row-agrees, numbers-read                        what they ask of a record
 --   duid-..                                         a DUID behind its length
---   two-stop, two-rest                              the two tests of every two records
+--   two-stop, two-rest, keys-told                   the two tests of every two records; a first look at their keys
 --   sound-size                                      a sound table has one size
 --   other-size, too-many, bad-rows, sound-read      the whole table
 use mathlib.Core.Path.{_≡_, sym, ap, _∙_}
@@ -25,7 +25,7 @@ use Rattle.laws.specs.Represent.{sound-bytes, table-length}
 use Rattle.laws.specs.Flat.{duidIn, goodNumbers, goodRow, goodHeader, flatSound, flat-sound}
 use Rattle.prefix.specs.Upper.{upper}
 use Rattle.distinct.specs.Distinct.{Distinct}
-use Rattle.ranks.specs.Rank.{keyAt, clear}
+use Rattle.ranks.specs.Rank.{keyAt, NoneShorter, clear}
 use Rattle.ranks.specs.Clear.{two-tests, keys-tell}
 use Rattle.sound.specs.Setup.{setupOf, Agrees}
 use Rattle.sound.specs.declared.Setup.{Setup}
@@ -85,10 +85,10 @@ module _ (t : List ℕ) (n : ℕ) {a : Bool} (areas : a ≡ noTwo (clear true) (
   pub two-rest : {b : Bool} → not a ≡ false → b ≡ noTwo (clear false) (from (recordAt t) 0 n) → b ≡ noTwo mayStand (from (recordAt t) 0 n)
   two-rest h e = e ∙ sym (two-tests (from (recordAt t) 0 n) ∙ rw (sym areas ∙ not-false a h))
 
--- keys by identity of which no two are the same tell it
-pub names-told : (t keys l : List ℕ) (n : ℕ) (by : Bool) → all (goodRow (settingsOf t)) (from (rowAt t) 0 n) ≡ true → Bytes t → tableSize ≤ length t → n ≤ 256
-    → keys ≡ splice 0 (from (keyAt by t) 0 n) l → (by ≡ false) × Distinct keys n → true ≡ noTwo (clear by) (from (recordAt t) 0 n)
-names-told t keys l n by good bytes room few e h = rw (h .0) (sym (keys-tell (settingsOf t) t keys n good l bytes room few (rw (h .0) at e) (h .1)))
+-- keys of which no two are the same tell it
+pub keys-told : (t keys l : List ℕ) (n m : ℕ) (by : Bool) → all (goodRow (settingsOf t)) (from (rowAt t) 0 n) ≡ true → Bytes t → tableSize ≤ length t → n ≤ 256
+    → m ≤ 64 → NoneShorter t n m → keys ≡ splice 0 (from (keyAt by m t) 0 n) l → Distinct keys n → true ≡ noTwo (clear by) (from (recordAt t) 0 n)
+keys-told t keys l n m by good bytes room few long none e d = sym (keys-tell (settingsOf t) t keys n good by l bytes room few m long none e d)
 
 -- ---------------------------------------------------------------- the table
 

@@ -8,8 +8,7 @@ ghost use Rattle.rules.specs.Words.{all, noTwo, from, numAt};
 ghost use Rattle.rules.specs.Table.{mayStand};
 ghost use Rattle.rules.specs.TableBytes.{tableSize, flag, rowAt, recordAt, settingsOf, countOf, soundBytes};
 ghost use Rattle.laws.specs.Flat.{goodNumbers, duidIn, goodRow, goodHeader};
-ghost use Rattle.ranks.specs.Rank.{clear};
-ghost use Rattle.distinct.specs.Distinct.{Distinct};
+ghost use Rattle.ranks.specs.Rank.{NoneShorter, clear};
 ghost use Rattle.sound.specs.Setup.{setupOf, Agrees};
 
 // The numbers of the box's settings: the pool by its upper half and its length P, then S and D. The own DUID stays in the table.
@@ -153,27 +152,18 @@ fn rows_good(t: &[u8], n: usize, s: Setup) -> bool
     true
 }
 
-// Whether the keys tell it already: by identity they do where no two are the same, which is the common case.
-fn told(keys: &[u64], area: bool, n: usize) -> bool
-    requires { ⌜ n ≤ length (now keys) ⌝ }
-    ensures { λ r. ⌜ (r ≡ true → (area ≡ false) × Distinct (now (keys .entry)) n) ⌝ }
-{
-    if area {
-        return false;
-    }
-    distinct::plain(keys, n)
-}
-
-// Whether every two of n good records are clear of each other, by area or by identity.
-fn all_clear(t: &[u8], area: bool, n: usize) -> bool
-    requires { ⌜ (n ≤ 256) × (tableSize ≤ length (now t)) × (all (goodRow (settingsOf (now t))) (from (rowAt (now t)) 0 n) ≡ true) ⌝ }
+// Whether every two of n good records are clear of each other, by area or by identity. Keys of which no two are the same tell it
+// at a look, which is the common case: by area the first m bits, where no record has fewer.
+fn all_clear(t: &[u8], area: bool, m: u64, n: usize) -> bool
+    requires { ⌜ (n ≤ 256) × (tableSize ≤ length (now t)) × (all (goodRow (settingsOf (now t))) (from (rowAt (now t)) 0 n) ≡ true) × (m ≤ 64) × NoneShorter (now t) n m ⌝ }
     ensures { λ r. ⌜ r ≡ noTwo (clear area) (from (recordAt (now (t .entry))) 0 n) ⌝ }
 {
     let mut keys = [0u64; 256];
-    ranks::put_keys(t, area, n, &mut keys);
-    if told(&keys, area, n) {
+    ranks::put_keys(t, area, m, n, &mut keys);
+    if distinct::plain(&keys, n) {
         return true;
     }
+    ranks::put_keys(t, area, 64, n, &mut keys);
     ordered::apart(t, &keys, area, n)
 }
 
@@ -182,10 +172,11 @@ fn no_two(t: &[u8], n: usize) -> bool
     requires { ⌜ (n ≤ 256) × (tableSize ≤ length (now t)) × (all (goodRow (settingsOf (now t))) (from (rowAt (now t)) 0 n) ≡ true) ⌝ }
     ensures { λ r. ⌜ r ≡ noTwo mayStand (from (recordAt (now (t .entry))) 0 n) ⌝ }
 {
-    if !all_clear(t, true, n) {
+    let m = ranks::shortest(t, n);
+    if !all_clear(t, true, m, n) {
         return false;
     }
-    all_clear(t, false, n)
+    all_clear(t, false, m, n)
 }
 
 // Whether the bytes are a sound table.

@@ -1,6 +1,6 @@
 use borrow.Author.Needs.{needs}
 use Rattle.ranks.specs.Clear.{between}
-use Rattle.sound.proofs.Laws.{names-told}
+use Rattle.sound.proofs.Laws.{keys-told}
 use Rattle.sound.proofs.all_clear.Statement.{statement}
 use Rattle.sound.proofs.all_clear.Tie as tie
 
@@ -10,20 +10,26 @@ slice-aggregate-put-keys c = search needs
 put-keys-requires : tie.Need-put-keys-requires
 put-keys-requires c κs = search needs
 
-slice-aggregate-told : tie.Need-slice-aggregate-told
-slice-aggregate-told c = search needs
+slice-aggregate-plain : tie.Need-slice-aggregate-plain
+slice-aggregate-plain c = search needs
 
-told-requires : tie.Need-told-requires
-told-requires c κs = search needs
+plain-requires : tie.Need-plain-requires
+plain-requires c κs = search needs
 
 returns : tie.Need-returns
-returns c = names-told _ _ _ _ (c .before .before .before .before .before .before .before .args .area) (c .before .before .before .before .before .before .before .pre .2) (λ i. c .before .before .before .before .before .before .shared-slice-known .given i .fits) (search needs) (search needs) (c .before .before .before .before .put-keys .ensures) (c .before .told .ensures (c .if1 .taken))
+returns c = keys-told _ _ _ _ _ (c .before .before .before .before .before .before .before .args .area) (c .before .before .before .before .before .before .before .pre .2) (λ i. c .before .before .before .before .before .before .shared-slice-known .given i .fits) (search needs) (search needs) (search needs) (c .before .before .before .before .before .before .before .pre .4) (c .before .before .before .before .put-keys .ensures) (c .before .plain .ensures (c .if1 .taken))
+
+slice-aggregate-put-keys-2 : tie.Need-slice-aggregate-put-keys-2
+slice-aggregate-put-keys-2 c = search needs
+
+put-keys-requires-2 : tie.Need-put-keys-requires-2
+put-keys-requires-2 c κs = search needs
 
 slice-aggregate-apart : tie.Need-slice-aggregate-apart
 slice-aggregate-apart c = search needs
 
 apart-requires : tie.Need-apart-requires
-apart-requires c κs = (search needs, search needs, search needs, between _ _ _ _ (c .before .before .before .before .before .before .before .before .pre .2) (c .before .before .before .before .before .before .before .before .args .area) _ (λ i. c .before .before .before .before .before .before .before .shared-slice-known .given i .fits) (search needs) (search needs) (c .before .before .before .before .before .put-keys .ensures))
+apart-requires c κs = (search needs, search needs, search needs, between _ _ _ _ (c .before .before .before .before .before .before .before .before .before .before .before .pre .2) (c .before .before .before .before .before .before .before .before .before .before .before .args .area) _ (λ i. c .before .before .before .before .before .before .before .before .before .before .shared-slice-known .given i .fits) (search needs) (search needs) (c .before .before .put-keys2 .ensures))
 
 returns-2 : tie.Need-returns-2
 returns-2 c = search needs
@@ -34,9 +40,11 @@ all-clear-spec =
     (tie.spec
     slice-aggregate-put-keys
     put-keys-requires
-    slice-aggregate-told
-    told-requires
+    slice-aggregate-plain
+    plain-requires
     returns
+    slice-aggregate-put-keys-2
+    put-keys-requires-2
     slice-aggregate-apart
     apart-requires
     returns-2)
