@@ -68,6 +68,16 @@ fn shuffled(i: usize, n: usize) -> (u64, u8) {
     standard(1 + i * 97 % n)
 }
 
+/// Two lengths, shuffled: /60s side by side from the pool's begin, and as many /56s from its middle.
+fn mixed(i: usize, n: usize) -> (u64, u8) {
+    let place = i * 97 % n;
+    if place % 2 == 0 {
+        standard(place / 2)
+    } else {
+        (POOL | (128 + place as u64 / 2) << (64 - USUAL.shortest), USUAL.shortest)
+    }
+}
+
 /// All of the pool, in its order and as evenly as can be: no length has a free place, so each one is tried; from the
 /// records' own length on every record stands in the way once, and before it the tries hit as late as can be.
 fn filled(i: usize, n: usize) -> (u64, u8) {
@@ -170,8 +180,8 @@ const KINDS: [&str; 10] = [
 pub fn inputs() -> Vec<Input> {
     let mut all = Vec::new();
     let identities: [(&str, fn(usize) -> Identity); 3] = [("real", real), ("iaids", iaids), ("late", late)];
-    let orders: [(&str, fn(usize, usize) -> (u64, u8)); 3] =
-        [("ascending", ascending), ("descending", descending), ("shuffled", shuffled)];
+    let orders: [(&str, fn(usize, usize) -> (u64, u8)); 4] =
+        [("ascending", ascending), ("descending", descending), ("shuffled", shuffled), ("mixed", mixed)];
     for identities in identities {
         for order in orders {
             let every = order.0 == "ascending" && identities.0 != "iaids";

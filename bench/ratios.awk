@@ -54,9 +54,9 @@ function messages(world, kinds, titles,    i, kind, title) {
 
 function soundness(    i, j, who, order, world) {
     split("real iaids late", who, " ")
-    split("ascending descending shuffled", order, " ")
+    split("ascending descending shuffled mixed", order, " ")
     head("identities, order", "proved ÷ memcpy", "proved ÷ plain", "proved ÷ sorted")
-    for (i = 1; i <= 3; i++) for (j = 1; j <= 3; j++) {
+    for (i = 1; i <= 3; i++) for (j = 1; j <= 4; j++) {
         world = who[i] SUBSEP order[j]
         print "| " who[i] ", " order[j] " |" cells(world, "live", "proved") cells(world, "live", "proved", "plain") \
             cells(world, "live", "proved", "sorted")

@@ -137,7 +137,7 @@ pub fn all_zero(t: &[u8], at: usize, n: usize) -> bool
         return words::all_zero(t, at, n);
     }
     if 8 <= n {
-        return words::few_zero(t, at, n);
+        return words::ends_zero(t, at, n);
     }
     let mut k: usize = 0;
     while k < n {
@@ -147,6 +147,17 @@ pub fn all_zero(t: &[u8], at: usize, n: usize) -> bool
         k += 1;
     }
     true
+}
+
+// The same of at most 128 bytes, as the zeros after a DUID: most are more than half of them, and take no loop.
+pub fn few_zero(t: &[u8], at: usize, n: usize) -> bool
+    requires { ⌜ (n ≤ 128) × (at + n ≤ length (now t)) ⌝ }
+    ensures { λ r. ⌜ r ≡ all (eqb 0) (part at n (now (t .entry))) ⌝ }
+{
+    if 64 <= n {
+        return words::zero64(t, at) & words::zero64(t, at + (n - 64));
+    }
+    all_zero(t, at, n)
 }
 
 // The 16 bytes from `at`, and the 130.

@@ -110,7 +110,7 @@ fn zero32(t: &[u8], at: usize) -> bool
     zero16(t, at) & zero16(t, at + 16)
 }
 
-fn zero64(t: &[u8], at: usize) -> bool
+pub fn zero64(t: &[u8], at: usize) -> bool
     requires { ⌜ at + 64 ≤ length (now t) ⌝ }
     ensures { λ r. ⌜ r ≡ all (eqb 0) (part at 64 (now (t .entry))) ⌝ }
 {
@@ -134,7 +134,7 @@ pub fn all_zero(t: &[u8], at: usize, n: usize) -> bool
 }
 
 // The same for 8 to 64 bytes: the first and the last block of a size that leaves nothing between.
-pub fn few_zero(t: &[u8], at: usize, n: usize) -> bool
+pub fn ends_zero(t: &[u8], at: usize, n: usize) -> bool
     requires { ⌜ (8 ≤ n) × (n ≤ 64) × (at + n ≤ length (now t)) ⌝ }
     ensures { λ r. ⌜ r ≡ all (eqb 0) (part at n (now (t .entry))) ⌝ }
 {

@@ -81,7 +81,7 @@ fn good_duid(t: &[u8], at: usize, n: usize) -> bool
     if 130 < n {
         return false;
     }
-    cells::all_zero(t, at + n, 130 - n)
+    cells::few_zero(t, at + n, 130 - n)
 }
 
 // Whether the header is good: the settings' numbers, the box's own DUID, and 15 zeros.

@@ -22,11 +22,11 @@ all-zero-requires c κs = search needs
 returns : tie.Need-returns Inv-loop μ-loop
 returns c = c .all-zero .ensures
 
-few-zero-requires : tie.Need-few-zero-requires Inv-loop μ-loop
-few-zero-requires c κs = search needs
+ends-zero-requires : tie.Need-ends-zero-requires Inv-loop μ-loop
+ends-zero-requires c κs = search needs
 
 returns-2 : tie.Need-returns-2 Inv-loop μ-loop
-returns-2 c = c .few-zero .ensures
+returns-2 c = c .ends-zero .ensures
 
 loop-holds : tie.Need-loop-holds Inv-loop μ-loop
 loop-holds c = (omega arith, rw (add-zero, sub-zero))
@@ -60,7 +60,7 @@ all-zero-spec =
     μ-loop
     all-zero-requires
     returns
-    few-zero-requires
+    ends-zero-requires
     returns-2
     loop-holds
     add-if3

@@ -9,14 +9,14 @@ returns c = duid-short _ _ _ (c .if1 .taken)
 returns-2 : tie.Need-returns-2
 returns-2 c = duid-long _ _ _ (c .before .if1 .left) (c .if2 .taken)
 
-add-all-zero : tie.Need-add-all-zero
-add-all-zero c = search needs
+add-few-zero : tie.Need-add-few-zero
+add-few-zero c = search needs
 
-all-zero-requires : tie.Need-all-zero-requires
-all-zero-requires c κs = search needs
+few-zero-requires : tie.Need-few-zero-requires
+few-zero-requires c κs = search needs
 
 returns-3 : tie.Need-returns-3
-returns-3 c = duid-between _ _ _ (c .before .before .if1 .left) (c .before .if2 .left) (c .all-zero .ensures)
+returns-3 c = duid-between _ _ _ (c .before .before .if1 .left) (c .before .if2 .left) (c .few-zero .ensures)
 
 pub good-duid-spec : {M : Type 1} → statement M
-good-duid-spec = tie.close (tie.spec returns returns-2 add-all-zero all-zero-requires returns-3)
+good-duid-spec = tie.close (tie.spec returns returns-2 add-few-zero few-zero-requires returns-3)

@@ -1,7 +1,7 @@
 use borrow.Author.Needs.{needs}
 use Rattle.cells.proofs.Laws.{zero-ends}
-use Rattle.cells.proofs.words.few_zero.Statement.{statement}
-use Rattle.cells.proofs.words.few_zero.Tie as tie
+use Rattle.cells.proofs.words.ends_zero.Statement.{statement}
+use Rattle.cells.proofs.words.ends_zero.Tie as tie
 
 zero32-requires : tie.Need-zero32-requires
 zero32-requires c κs = search needs
@@ -42,8 +42,8 @@ zero8-requires-2 c κs = search needs
 returns-3 : tie.Need-returns-3
 returns-3 c = zero-ends _ _ 8 _ (search needs) (search needs) (c .before .zero8 .ensures) (c .zero82 .ensures)
 
-pub few-zero-spec : {M : Type 1} → statement M
-few-zero-spec =
+pub ends-zero-spec : {M : Type 1} → statement M
+ends-zero-spec =
     tie.close
     (tie.spec
     zero32-requires
