@@ -163,8 +163,11 @@ fn all_clear(t: &[u8], area: bool, m: u64, n: usize) -> bool
     if distinct::plain(&keys, n) {
         return true;
     }
-    ranks::put_keys(t, area, 64, n, &mut keys);
-    ordered::apart(t, &keys, area, n)
+    if !area {
+        return shared::no_name_twice(t, n);
+    }
+    ranks::put_keys(t, true, 64, n, &mut keys);
+    ordered::apart(t, &keys, n)
 }
 
 // Whether every two of them may stand in one table.

@@ -1,4 +1,5 @@
 use borrow.Author.Needs.{needs}
+use borrow.Author.Tests.{not-true, not-false}
 use Rattle.ranks.specs.Clear.{between}
 use Rattle.sound.proofs.Laws.{keys-told}
 use Rattle.sound.proofs.all_clear.Statement.{statement}
@@ -19,6 +20,12 @@ plain-requires c κs = search needs
 returns : tie.Need-returns
 returns c = keys-told _ _ _ _ _ (c .before .before .before .before .before .before .before .args .area) (c .before .before .before .before .before .before .before .pre .2) (λ i. c .before .before .before .before .before .before .shared-slice-known .given i .fits) (search needs) (search needs) (search needs) (c .before .before .before .before .before .before .before .pre .4) (c .before .before .before .before .put-keys .ensures) (c .before .plain .ensures (c .if1 .taken))
 
+no-name-twice-requires : tie.Need-no-name-twice-requires
+no-name-twice-requires c κs = search needs
+
+returns-2 : tie.Need-returns-2
+returns-2 c = rw (not-true (c .before .before .before .before .before .before .before .before .before .args .area) (c .before .if2 .taken)) (c .no-name-twice .ensures)
+
 slice-aggregate-put-keys-2 : tie.Need-slice-aggregate-put-keys-2
 slice-aggregate-put-keys-2 c = search needs
 
@@ -29,10 +36,10 @@ slice-aggregate-apart : tie.Need-slice-aggregate-apart
 slice-aggregate-apart c = search needs
 
 apart-requires : tie.Need-apart-requires
-apart-requires c κs = (search needs, search needs, search needs, between _ _ _ _ (c .before .before .before .before .before .before .before .before .before .before .before .pre .2) (c .before .before .before .before .before .before .before .before .before .before .before .args .area) _ (λ i. c .before .before .before .before .before .before .before .before .before .before .shared-slice-known .given i .fits) (search needs) (search needs) (c .before .before .put-keys2 .ensures))
+apart-requires c κs = (search needs, search needs, search needs, between _ _ _ _ (c .before .before .before .before .before .before .before .before .before .before .before .before .pre .2) _ (c .before .before .put-keys2 .ensures))
 
-returns-2 : tie.Need-returns-2
-returns-2 c = search needs
+returns-3 : tie.Need-returns-3
+returns-3 c = rw (not-false (c .before .before .before .before .before .before .before .before .before .before .before .before .before .args .area) (c .before .before .before .before .before .if2 .left)) (c .apart .ensures)
 
 pub all-clear-spec : {M : Type 1} → statement M
 all-clear-spec =
@@ -43,8 +50,10 @@ all-clear-spec =
     slice-aggregate-plain
     plain-requires
     returns
+    no-name-twice-requires
+    returns-2
     slice-aggregate-put-keys-2
     put-keys-requires-2
     slice-aggregate-apart
     apart-requires
-    returns-2)
+    returns-3)
