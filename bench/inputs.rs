@@ -3,6 +3,7 @@
 use crate::messages::{message, opening, real, Identity};
 use crate::sides::{Lengths, OWN, PLAIN, PROVED};
 use reference::prefix::Prefix;
+use reference::wire::LONGEST_MESSAGE;
 use reference::{TableBytes, REBIND, RECORD_BYTES, RELEASE, RENEW, REQUEST, SOLICIT, TABLE_BYTES};
 
 const POOL: u64 = 0x2001_0db8_0000_0000;
@@ -78,6 +79,14 @@ fn mixed(i: usize, n: usize) -> (u64, u8) {
     }
 }
 
+/// As long as a message may be, filled up with options that nobody knows and that hold nothing.
+fn long(mut text: Vec<u8>) -> Vec<u8> {
+    while text.len() + 4 <= LONGEST_MESSAGE {
+        text.extend([0xFF, 0, 0, 0]);
+    }
+    text
+}
+
 /// All of the pool, in its order and as evenly as can be: no length has a free place, so each one is tried; from the
 /// records' own length on every record stands in the way once, and before it the tries hit as late as can be.
 fn filled(i: usize, n: usize) -> (u64, u8) {
@@ -132,6 +141,7 @@ impl World {
             "request-new" => message(REQUEST, &new, OWN, Some(prefix(standard(0)))),
             "request-bound" => message(REQUEST, &bound, OWN, own()),
             "renew" => message(RENEW, &bound, OWN, own()),
+            "renew-long" => long(message(RENEW, &bound, OWN, own())),
             "rebind" => message(REBIND, &bound, OWN, own()),
             "release" => message(RELEASE, &bound, OWN, own()),
             "refused-5" => [message(RENEW, &bound, OWN, own()), vec![0, 0]].concat(),
@@ -163,13 +173,14 @@ fn sizes(kind: &str) -> &'static [usize] {
     }
 }
 
-const KINDS: [&str; 10] = [
+const KINDS: [&str; 11] = [
     "live",
     "solicit-new",
     "solicit-bound",
     "request-new",
     "request-bound",
     "renew",
+    "renew-long",
     "rebind",
     "release",
     "refused-5",
@@ -185,7 +196,7 @@ pub fn inputs() -> Vec<Input> {
     for identities in identities {
         for order in orders {
             let every = order.0 == "ascending" && identities.0 != "iaids";
-            let kinds = if every { &KINDS[..] } else { &["live", "renew"] };
+            let kinds = if every { &KINDS[..] } else { &["live", "renew", "renew-long"] };
             all.extend(World { identities, order, lengths: USUAL }.inputs(kinds));
         }
     }

@@ -68,8 +68,8 @@ function choice(title, world, kind) {
 }
 
 END {
-    kinds = "solicit-new,solicit-bound,request-new,request-bound,renew,rebind,release,refused-5,refused-7"
-    titles = "Solicit: new,Solicit: bound,Request: new,Request: bound,Renew,Rebind,Release,refused with 5,refused with 7"
+    kinds = "solicit-new,solicit-bound,request-new,request-bound,renew,renew-long,rebind,release,refused-5,refused-7"
+    titles = "Solicit: new,Solicit: bound,Request: new,Request: bound,Renew,Renew of 1232 bytes,Rebind,Release,refused with 5,refused with 7"
     printf "In %s; a copy of the table is %d. Few records are 0 or 1, most are 256 or 255.\n", unit, copy
     print "\nMessages, identities of one maker"
     messages("real" SUBSEP "ascending", kinds, titles)
