@@ -130,7 +130,7 @@ fn profile(side: &Side) {
     println!("{}", bench_mark as extern "C" fn() as usize);
     let all = inputs();
     marked(None, &all[0]);
-    for kind in ["renew", "request-bound", "refused-5"] {
+    for kind in ["renew", "renew-long", "request-bound", "refused-5"] {
         let name = format!("real ascending {kind}");
         all.iter().filter(|input| input.name == name).for_each(|input| marked(Some(side), input));
     }

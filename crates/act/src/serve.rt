@@ -3,25 +3,20 @@ ghost use mathlib.Core.Path.{_≡_};
 ghost use Prim.Native.Nat.{_≤_};
 ghost use lib.ListN.{length};
 ghost use Rattle.rules.specs.Lent.{ended};
+ghost use Rattle.notes.specs.Noted.{Noted};
 ghost use Rattle.act.specs.Serve.{Ready, servedOn};
 use crate::answer::answer;
 use crate::carry::carry_out;
+use notes::Notes;
 
-pub fn serve(t: &mut [u8], time: u64, msg: &[u8], out: &mut [u8]) -> u64
-    requires { ⌜ Ready (now t) time (now msg) × (442 ≤ length (now out)) ⌝ }
+pub fn serve(t: &mut [u8], time: u64, msg: &[u8], s: Notes, out: &mut [u8]) -> u64
+    requires { ⌜ Ready (now t) time (now msg) × (442 ≤ length (now out)) × Noted (now msg) s ⌝ }
     ensures { λ r. ⌜ ended r (now (t .exit)) (now (out .exit)) ≡ servedOn (now (t .entry)) time (now (msg .entry)) (now (out .entry)) ⌝ }
 {
-    let q = heard::asked_pd(msg);
-    let client = wire::find::client_id(msg);
-    let p = decide::decide(
-        t,
-        time,
-        heard::kind_of(msg),
-        client,
-        wire::says::asked(msg),
-        q,
-    );
-    let n = answer(out, t, msg, p, q);
+    let q = heard::asked_pd(msg, s.pd);
+    let client = notes::client_of(msg, s.client);
+    let p = decide::decide(t, time, heard::kind_of(msg), client, s.asks, q);
+    let n = answer(out, t, msg, client, p, q);
     carry_out(t, p, client, q.iaid);
     n as u64
 }

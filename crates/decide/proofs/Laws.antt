@@ -4,7 +4,7 @@
 --   both-are, aligned, bound-..                  the asker's record is number k
 --   choice-asks, choice-is                       what a choice asks, and what it gives
 --   of-kind, unbound-.., offer-.., bind-..       the asker has no record
---   live-.., gone-is, silent-rebind, spoken      silence
+--   live-.., gone-is, silent-rebind              silence
 use mathlib.Core.Path.{_≡_, refl, sym, ap, _∙_}
 use mathlib.Core.Bool.{Bool, true, false, cond, not, _&&_}
 use mathlib.Core.List.{List, [], _∷_}
@@ -282,48 +282,12 @@ gone-is b s ps n a l e =
     let m : length (firstListed n ps) ≡ n = rw (length-map, length-take-le n ps l) in
     e ∙ rw (← a, m)
 
-abbrev isRebind : Kind → Bool
-isRebind Solicit = false
-isRebind Request = false
-isRebind Renew = false
-isRebind Rebind = true
-isRebind Release = false
-
 module _ (s : Settings) (now : Moment) (q : Asked) (rs : List Record) where
-  pub silent-rebind : {kind : Kind} {l g : Bool} → kind ≡ Rebind → l ≡ isThere (binding (q .who) rs) → g ≡ gone s (q .listed) → not l && not g ≡ isSilence (serve s now q rs kind .verdict)
+  pub silent-rebind : {l g : Bool} → l ≡ isThere (binding (q .who) rs) → g ≡ gone s (q .listed) → not l && not g ≡ isSilence (serve s now q rs Rebind .verdict)
   unfolding serve
-  silent-rebind {g = g} k el eg = rw (k, el) (by (binding (q .who) rs) g eg)
+  silent-rebind {g = g} el eg = rw el (by (binding (q .who) rs) g eg)
     where
       by : (f : Option Record) (g : Bool) → g ≡ gone s (q .listed) → not (isThere f) && not g ≡ isSilence (serveRebind s now q rs f .verdict)
       by (some r) g e = refl
       by none true e = rw (← e)
       by none false e = rw (← e)
-
-  choosing : (f : Option Record) (c : Option Prefix) → (false ≡ isSilence (serveSolicit s now q rs f c .verdict)) × (false ≡ isSilence (serveRequest s now q rs f c .verdict))
-  choosing (some r) c = (refl, refl)
-  choosing none (some p) = (refl, refl)
-  choosing none none = (refl, refl)
-
-  renewed : (f : Option Record) → false ≡ isSilence (serveRenew s now q rs f .verdict)
-  renewed (some r) = refl
-  renewed none = refl
-
-  released : (f : Option Record) → false ≡ isSilence (serveRelease s now q rs f .verdict)
-  released none = refl
-  released (some r) = by (isFreed r (q .listed))
-    where
-      by : (f : Bool) → false ≡ isSilence (cond f (leaves (giveUp (isBinding (q .who)) rs) success) (leaves rs noBinding) .verdict)
-      by true = refl
-      by false = refl
-
-  -- only a Rebind can be passed over
-  pub spoken : {kind k : Kind} → kind ≡ k → isRebind k ≡ false → false ≡ isSilence (serve s now q rs kind .verdict)
-  unfolding serve
-  spoken {k = k} p n = rw p (by k n)
-    where
-      by : (k : Kind) → isRebind k ≡ false → false ≡ isSilence (serve s now q rs k .verdict)
-      by Solicit n = choosing (binding (q .who) rs) (choose s rs (hintOf (q .listed))) .0
-      by Request n = choosing (binding (q .who) rs) (choose s rs (hintOf (q .listed))) .1
-      by Renew n = renewed (binding (q .who) rs)
-      by Rebind n = absurd (false-true (sym n))
-      by Release n = released (binding (q .who) rs)

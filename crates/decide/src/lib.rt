@@ -9,7 +9,7 @@ ghost use Rattle.rules.specs.Table.{current};
 ghost use Rattle.rules.specs.TableBytes.{tableSize, settingsOf, countOf, tableOf, soundBytes};
 ghost use Rattle.rules.specs.Choose.{choose};
 ghost use Rattle.rules.specs.Box.{binding, gone, hintOf, isSilence, serve};
-ghost use Rattle.rules.specs.declared.Kind.the-variants.{Solicit, Request};
+ghost use Rattle.rules.specs.declared.Kind.the-variants.{Solicit, Request, Rebind};
 ghost use Rattle.values.specs.Values.{firstListed};
 ghost use Rattle.sound.specs.Setup.{Agrees};
 ghost use Rattle.choose.specs.Choice.{choiceOf};
@@ -196,19 +196,11 @@ fn is_live(t: &[u8], time: u64, duid: &[u8], iaid: u32) -> bool
     }
 }
 
-// Whether a message of that kind is passed over in silence, once ended records are dropped.
-pub fn silent(t: &[u8], time: u64, kind: Kind, duid: &[u8], q: Pd) -> bool
+// Whether a Rebind is passed over in silence, once ended records are dropped.
+pub fn silent(t: &[u8], time: u64, duid: &[u8], q: Pd) -> bool
     requires { ⌜ (soundBytes (now t) ≡ true) × (q .count ≤ 4) ⌝ }
-    ensures { λ r. ⌜ r ≡ isSilence (serve (settingsOf (now (t .entry))) time (askedOf (now (duid .entry)) false q) (current time (tableOf (now (t .entry)) .records)) kind .verdict) ⌝ }
+    ensures { λ r. ⌜ r ≡ isSilence (serve (settingsOf (now (t .entry))) time (askedOf (now (duid .entry)) false q) (current time (tableOf (now (t .entry)) .records)) Rebind .verdict) ⌝ }
 {
-    match kind {
-        Kind::Solicit => false,
-        Kind::Request => false,
-        Kind::Renew => false,
-        Kind::Rebind => {
-            let ps = q.prefixes;
-            !is_live(t, time, duid, q.iaid) & !all_gone(t, ps, q.count)
-        }
-        Kind::Release => false,
-    }
+    let ps = q.prefixes;
+    !is_live(t, time, duid, q.iaid) & !all_gone(t, ps, q.count)
 }

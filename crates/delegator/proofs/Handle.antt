@@ -24,6 +24,8 @@ use Rattle.laws.specs.Sent.{GoodVerdict}
 use Rattle.laws.specs.Sound.{Good, good-facts, sound-facts, sound-made}
 use Rattle.laws.specs.Change.{tidied, onRecords, held, tidied-held}
 use Rattle.laws.specs.Accepted.{Accepted, accepted, verdict-said, answer-sendable}
+use Rattle.notes.specs.Noted.{Noted, Heard}
+use Rattle.notes.specs.declared.Notes.{Notes}
 use Rattle.judge.specs.Judged.{judged}
 use Rattle.said.specs.Said.{listedFor}
 use Rattle.act.specs.Serve.{serviceOn, replyOn, servedOn, Ready}
@@ -124,6 +126,9 @@ module _ (b m : List ℕ) (now room : ℕ) {n : ℕ} (j : n ≡ judged b now m r
     fine = rw (service-is, settings-same) (fine-listed (tableOf b .settings) (isRelease (kindOf (read m .kind))) (serving (tableOf b) now (read m) .verdict) (omega (arith, good .preferred-valid, good .valid-32)) (omega (arith, good .valid-32)) (verdict-said a .0));
     size = rw reply-is (answer-sendable a .size);
   }
+
+  pub is-noted : (s : Notes) → Heard m s → Noted m s
+  is-noted s h = h .noted (h .formed ∙ rw (a .sized, a .formed))
 
   pub is-handled : (out : List ℕ) → length out ≡ room → servedOn c now m out ≡ boxHandled b now m out
   unfolding servedOn

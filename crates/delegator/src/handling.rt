@@ -5,10 +5,11 @@ ghost use Rattle.rules.specs.Lent.{ended, boxHandled};
 pub fn handle(t: &mut [u8], time: u64, msg: &[u8], out: &mut [u8]) -> u64
     ensures { λ r. ⌜ ended r (now (t .exit)) (now (out .exit)) ≡ boxHandled (now (t .entry)) time (now (msg .entry)) (now (out .entry)) ⌝ }
 {
-    let n = judge::judge(t, time, msg, out.len());
+    let s = notes::notes_of(msg);
+    let n = judge::judge(t, time, msg, s, out.len());
     if n != 0 {
         return n * 65536;
     }
     leases::ended::tidy(t, time);
-    act::serve::serve(t, time, msg, out)
+    act::serve::serve(t, time, msg, s, out)
 }

@@ -26,6 +26,8 @@ use Rattle.laws.specs.One.{map-append}
 use Rattle.values.specs.Values.{listedOf, firstListed, iaOf}
 use Rattle.values.specs.declared.IaPrefix.{IaPrefix}
 use Rattle.values.specs.declared.Pd.{Pd}
+use Rattle.notes.specs.Noted.{IsNote}
+use Rattle.notes.specs.declared.Note.{Note}
 use Rattle.heard.specs.Heard.{onlyOf, bare, bareIa}
 use Rattle.heard.specs.Ids.{idWanted, idGood, idsOf, idsHold}
 use Rattle.heard.specs.Facts.{only-at, only-nothing, PdAt, pd-stands}
@@ -40,6 +42,16 @@ module _ (w : ℕ) (m : List ℕ) where
   pub only-found : {k : ℕ} {f : Found} → k ≡ count w (areaOf m 4 (length m)) → k ≡ 1 → f ≡ nth w 0 (areaOf m 4 (length m)) → f ≡ onlyOf w m
   unfolding onlyOf top
   only-found q h g = rw (← q, eq-eqb _ _ h, ← g)
+
+  -- by the note of it
+  module _ (x : Note) (n : IsNote w m x) where
+    pub only-other-noted : (x .count ≡ 1 → ⊥) → Nothing ≡ onlyOf w m
+    unfolding onlyOf
+    only-other-noted h = rw (← n .counts, ne-eqb _ _ h)
+
+    pub only-noted : x .count ≡ 1 → x .first ≡ onlyOf w m
+    unfolding onlyOf
+    only-noted h = rw (← n .counts, eq-eqb _ _ h, ← n .begins)
 
 -- ---------------------------------------------------------------- the identity rows
 
@@ -94,8 +106,8 @@ none-stands f [] = refl
 none-stands f (d ∷ l) = rw (ne-eqb (length (d ∷ l)) 0 (λ q. omega arith))
 
 module _ (own : Duid) (k i : ℕ) (m : List ℕ) where
-  pub hold-none : {r : Bool} {c : ℕ} → r ≡ idWanted k i → r ≡ false → c ≡ count (i + 1) (areaOf m 4 (length m)) → eqb c 0 ≡ idsHold own k i m
-  unfolding idsHold top
+  pub hold-none : {r : Bool} {c : ℕ} → r ≡ idWanted k i → r ≡ false → c ≡ count (i + 1) (top m) → eqb c 0 ≡ idsHold own k i m
+  unfolding idsHold
   hold-none q e h = rw (← q, e, none-stands (idGood own i) (idsOf i m), length-map, h)
 
   pub hold-one : {r b : Bool} {p s n : ℕ} → r ≡ idWanted k i → r ≡ true → onlyOf (i + 1) m ≡ At p s n → b ≡ idGood own i (part s n m) → b ≡ idsHold own k i m

@@ -12,8 +12,11 @@ ghost use Rattle.rules.specs.Box.{iaOf as askedIa, wrongPds};
 ghost use Rattle.rules.specs.declared.Found.the-variants.{At, Nothing};
 ghost use Rattle.laws.specs.Formed.{PdFormed};
 ghost use Rattle.values.specs.Values.{listedOf, firstListed, iaOf};
+ghost use Rattle.notes.specs.Noted.{IsNote, Noted};
 ghost use Rattle.heard.specs.Heard.{onlyOf, bare, bareIa};
 ghost use Rattle.heard.specs.Ids.{idWanted, idGood, idsHold};
+use notes::Note;
+use notes::Notes;
 use rules::Found;
 use rules::Kind;
 use values::IaPrefix;
@@ -37,7 +40,19 @@ const ROWS: [[bool; 2]; 9] = [
     [true, true], // Release
 ];
 
-// The one option of a code in the message's own area.
+// The one option of a code in the message's own area, by the note of it.
+fn one(msg: &[u8], x: Note, code: usize) -> Found
+    requires { ⌜ IsNote code (now msg) x ⌝ }
+    ensures { λ r. ⌜ r ≡ onlyOf code (now (msg .entry)) ⌝ }
+{
+    if x.count != 1 {
+        return Found::Nothing;
+    }
+    let first = x.first;
+    first
+}
+
+// The same where there is no note.
 pub fn only(msg: &[u8], code: usize) -> Found
     ensures { λ r. ⌜ r ≡ onlyOf code (now (msg .entry)) ⌝ }
 {
@@ -157,14 +172,14 @@ fn id_good(msg: &[u8], own: &[u8], id: usize, start: usize, len: usize) -> bool
 }
 
 // Whether as many of an identity option stand as its row wants, and the one that stands is good.
-fn ids_hold(msg: &[u8], own: &[u8], kind: usize, id: usize) -> bool
-    requires { ⌜ id < 2 ⌝ }
+fn ids_hold(msg: &[u8], own: &[u8], kind: usize, id: usize, x: Note) -> bool
+    requires { ⌜ (id < 2) × IsNote (id + 1) (now msg) x ⌝ }
     ensures { λ r. ⌜ r ≡ idsHold (now (own .entry)) kind id (now (msg .entry)) ⌝ }
 {
     if !id_wanted(kind, id) {
-        return count_of(msg, 4, msg.len(), id + 1) == 0;
+        return x.count == 0;
     }
-    match only(msg, id + 1) {
+    match one(msg, x, id + 1) {
         Found::At {
             place: _,
             start,
@@ -175,18 +190,20 @@ fn ids_hold(msg: &[u8], own: &[u8], kind: usize, id: usize) -> bool
 }
 
 // Whether the identity row of the message's type holds, for a box whose own DUID that is.
-pub fn row_holds(msg: &[u8], own: &[u8]) -> bool
+pub fn row_holds(msg: &[u8], own: &[u8], s: Notes) -> bool
+    requires { ⌜ Noted (now msg) s ⌝ }
     ensures { λ r. ⌜ r ≡ rowHolds (now (own .entry)) (read (now (msg .entry))) ⌝ }
 {
     let kind = u8_at(msg, 0);
-    ids_hold(msg, own, kind, 0) & ids_hold(msg, own, kind, 1)
+    ids_hold(msg, own, kind, 0, s.client) & ids_hold(msg, own, kind, 1, s.server)
 }
 
 // Whether there isn't exactly one IA_PD, or it lists more than four IA Prefixes.
-pub fn wrong_pds(msg: &[u8]) -> bool
+pub fn wrong_pds(msg: &[u8], x: Note) -> bool
+    requires { ⌜ IsNote 25 (now msg) x ⌝ }
     ensures { λ r. ⌜ r ≡ wrongPds (read (now (msg .entry))) ⌝ }
 {
-    match only(msg, 25) {
+    match one(msg, x, 25) {
         Found::At {
             place: _,
             start,
@@ -217,11 +234,11 @@ pub fn kind_of(msg: &[u8]) -> Kind
 }
 
 // The IA_PD that a message asks about.
-pub fn asked_pd(msg: &[u8]) -> Pd
-    requires { ⌜ (wellFormed (now msg) ≡ true) × (wrongPds (read (now msg)) ≡ false) ⌝ }
+pub fn asked_pd(msg: &[u8], x: Note) -> Pd
+    requires { ⌜ (wellFormed (now msg) ≡ true) × (wrongPds (read (now msg)) ≡ false) × IsNote 25 (now msg) x ⌝ }
     ensures { λ r. ⌜ (iaOf r ≡ bareIa (askedIa (read (now (msg .entry))))) × (r .count ≤ 4) ⌝ }
 {
-    match only(msg, 25) {
+    match one(msg, x, 25) {
         Found::At {
             place: _,
             start,

@@ -1,7 +1,8 @@
 -- The tests, one after the other, as code makes them.
 use mathlib.Core.Path.{_≡_, refl, sym, ap, _∙_}
-use mathlib.Core.Bool.{Bool, true, false, not, _||_}
+use mathlib.Core.Bool.{Bool, true, false, cond, not, _&&_, _||_}
 use mathlib.Core.List.{List, _++_}
+use mathlib.Core.Option.{Option, none, some}
 use Prim.Native.Nat.{ℕ, _≤_, _<_, _^_}
 use native.Mathlib.Omega.{arith}
 use borrow.Author.Tests.{not-false, lt-ltb, le-ltb}
@@ -11,16 +12,24 @@ use Rattle.rules.specs.Words.{numAt}
 use Rattle.rules.specs.Refusals.{badTime, wrongSize}
 use Rattle.rules.specs.Message.{read, wellFormed}
 use Rattle.rules.specs.Identity.{Duid, kindOf, served, rowHolds}
-use Rattle.rules.specs.Table.{current}
+use Rattle.rules.specs.Prefix.{Prefix}
+use Rattle.rules.specs.Clock.{Moment}
+use Rattle.rules.specs.Settings.{Settings}
+use Rattle.rules.specs.Table.{Record, isBinding, giveUp, current}
 use Rattle.rules.specs.TableBytes.{tableSize, settingsOf, tableOf, soundBytes}
-use Rattle.rules.specs.Box.{serve, serving, iaOf as askedIa, askedBy, wrongPds, isSilence}
+use Rattle.rules.specs.Choose.{choose}
+use Rattle.rules.specs.Box.{binding, isFreed, hintOf, noBinding, success, leaves, Asked, serveSolicit, serveRequest, serveRenew, serveRelease, serve, serving, iaOf as askedIa, askedBy, wrongPds, isSilence}
 use Rattle.rules.specs.declared.Kind.{Kind}
+use Rattle.rules.specs.declared.Kind.the-variants.{Solicit, Request, Renew, Rebind, Release}
+use Rattle.laws.specs.Tests.{false-true}
 use Rattle.laws.specs.Change.{held}
 use Rattle.laws.specs.Every.{Every}
 use Rattle.laws.specs.Refusals.{number, none-applies, number-here, number-later}
 use Rattle.values.specs.Values.{iaOf}
 use Rattle.values.specs.declared.Pd.{Pd}
 use Rattle.wire.specs.Client.{clientStretch}
+use Rattle.notes.specs.Noted.{Noted, Heard}
+use Rattle.notes.specs.declared.Notes.{Notes}
 use Rattle.heard.specs.Heard.{bareIa}
 use Rattle.plan.specs.Plan.{askedOf}
 use Rattle.judge.specs.Judged.{tableTests, roomTests, formTests, idTests, silenceTests, byTable, byForm, byIds, judged}
@@ -78,6 +87,10 @@ module _ (m : List ℕ) where
       unfolding byForm
       form-0 f = rw (h, kind g, unmet w f)
 
+  -- by the notes
+  pub formed-is : (s : Notes) → Heard m s → wrongSize m ≡ false → s .formed ≡ wellFormed m
+  formed-is s h g = h .formed ∙ rw g
+
 -- ---------------------------------------------------------------- 6, 7
 
 module _ (b m : List ℕ) {o : Duid} (w : o ≡ settingsOf b .own) {x : Bool} (r : x ≡ rowHolds o (read m)) where
@@ -99,6 +112,47 @@ module _ (b m : List ℕ) {o : Duid} (w : o ≡ settingsOf b .own) {x : Bool} (r
     ids-0 g = rw (row-is h, ← p, g)
 
 -- ---------------------------------------------------------------- 8
+
+abbrev isRebind : Kind → Bool
+isRebind Solicit = false
+isRebind Request = false
+isRebind Renew = false
+isRebind Rebind = true
+isRebind Release = false
+
+module _ (s : Settings) (now : Moment) (q : Asked) (rs : List Record) where
+  choosing : (f : Option Record) (c : Option Prefix) → (false ≡ isSilence (serveSolicit s now q rs f c .verdict)) × (false ≡ isSilence (serveRequest s now q rs f c .verdict))
+  choosing (some r) c = (refl, refl)
+  choosing none (some p) = (refl, refl)
+  choosing none none = (refl, refl)
+
+  renewed : (f : Option Record) → false ≡ isSilence (serveRenew s now q rs f .verdict)
+  renewed (some r) = refl
+  renewed none = refl
+
+  released : (f : Option Record) → false ≡ isSilence (serveRelease s now q rs f .verdict)
+  released none = refl
+  released (some r) = by (isFreed r (q .listed))
+    where
+      by : (f : Bool) → false ≡ isSilence (cond f (leaves (giveUp (isBinding (q .who)) rs) success) (leaves rs noBinding) .verdict)
+      by true = refl
+      by false = refl
+
+  -- only a Rebind can be passed over
+  pub spoken : {kind k : Kind} → kind ≡ k → isRebind k ≡ false → false ≡ isSilence (serve s now q rs kind .verdict)
+  unfolding serve
+  spoken {k = k} p n = rw p (by k n)
+    where
+      by : (k : Kind) → isRebind k ≡ false → false ≡ isSilence (serve s now q rs k .verdict)
+      by Solicit n = choosing (binding (q .who) rs) (choose s rs (hintOf (q .listed))) .0
+      by Request n = choosing (binding (q .who) rs) (choose s rs (hintOf (q .listed))) .1
+      by Renew n = renewed (binding (q .who) rs)
+      by Rebind n = absurd (false-true (sym n))
+      by Release n = released (binding (q .who) rs)
+
+pub over-other : (b m : List ℕ) (now : ℕ) {f k : Kind} → f ≡ kindOf (read m .kind) → f ≡ k → isRebind k ≡ false → false ≡ isSilence (serving (tableOf b) now (read m) .verdict)
+unfolding serving tableOf
+over-other b m now h e n = spoken (settingsOf b) now (askedBy (read m)) (current now (tableOf b .records)) (sym h ∙ e) n
 
 pub over-is : (b m : List ℕ) (now : ℕ) (d : Pd) → Understood b m → iaOf d ≡ bareIa (askedIa (read m)) → {k : Kind} → k ≡ kindOf (read m .kind) → {c : Duid} → c ≡ clientStretch m
     → {x : Bool} → x ≡ isSilence (serve (settingsOf b) now (askedOf c false d) (current now (tableOf b .records)) k .verdict) → x ≡ isSilence (serving (tableOf b) now (read m) .verdict)
@@ -152,6 +206,9 @@ module _ (b m : List ℕ) (now room : ℕ) where
           form-passed : Every (λ r. r .1 ≡ false) fs
           unfolding byForm
           form-passed = none-applies fs refl f fz
+
+          pub noted : (s : Notes) → Heard m s → Noted m s
+          noted s h = h .noted (formed-is m s h (form-passed .0) ∙ not-false _ (form-passed .1 .1 .0))
 
           after-form : judged b now m room ≡ number (is ++ ss)
           unfolding byForm

@@ -3,10 +3,15 @@ ghost use mathlib.Core.Path.{_≡_};
 ghost use Prim.Native.Nat.{_<_};
 ghost use mathlib.Core.Bool.{true};
 ghost use Rattle.rules.specs.Message.{read};
+ghost use Rattle.rules.specs.Identity.{kindOf};
 ghost use Rattle.rules.specs.TableBytes.{tableOf, soundBytes};
 ghost use Rattle.rules.specs.Box.{serving, isSilence};
+ghost use Rattle.rules.specs.declared.Kind.the-variants.{Rebind};
+ghost use Rattle.notes.specs.Noted.{Heard, Noted};
 ghost use Rattle.judge.specs.Judged.{byTable, byForm, byIds, judged};
 ghost use Rattle.judge.specs.Understood.{Understood};
+use notes::Notes;
+use rules::Kind;
 
 // 9, 1: by the table, and the time.
 pub fn by_table(t: &[u8], time: u64) -> u64
@@ -23,7 +28,8 @@ pub fn by_table(t: &[u8], time: u64) -> u64
 }
 
 // 3, 4, 5: by the message's length, type and form.
-fn by_form(msg: &[u8]) -> u64
+fn by_form(msg: &[u8], s: Notes) -> u64
+    requires { ⌜ Heard (now msg) s ⌝ }
     ensures { λ r. ⌜ (r ≡ byForm (now (msg .entry))) × (r < 10) ⌝ }
 {
     if (msg.len() < 4) | (1232 < msg.len()) {
@@ -33,37 +39,52 @@ fn by_form(msg: &[u8]) -> u64
     if !((k == 1) | (k == 3) | (k == 5) | (k == 6) | (k == 8)) {
         return 4;
     }
-    if !wire::check::well_formed(msg) {
+    if !s.formed {
         return 5;
     }
     0
 }
 
 // 6, 7: by its IDs and IA_PDs.
-fn by_ids(t: &[u8], msg: &[u8]) -> u64
-    requires { ⌜ soundBytes (now t) ≡ true ⌝ }
+fn by_ids(t: &[u8], msg: &[u8], s: Notes) -> u64
+    requires { ⌜ (soundBytes (now t) ≡ true) × Noted (now msg) s ⌝ }
     ensures { λ r. ⌜ (r ≡ byIds (now (t .entry)) (now (msg .entry))) × (r < 10) ⌝ }
 {
-    if !heard::row_holds(msg, sound::own_of(t)) {
+    if !heard::row_holds(msg, sound::own_of(t), s) {
         return 6;
     }
-    if heard::wrong_pds(msg) {
+    if heard::wrong_pds(msg, s.pd) {
         return 7;
     }
     0
 }
 
-// 8: by what would be said.
-fn passed_over(t: &[u8], time: u64, msg: &[u8]) -> bool
-    requires { ⌜ Understood (now t) (now msg) ⌝ }
+// Whether a Rebind is passed over.
+fn rebind_passed_over(t: &[u8], time: u64, msg: &[u8], s: Notes) -> bool
+    requires { ⌜ Understood (now t) (now msg) × Noted (now msg) s × (kindOf (read (now msg) .kind) ≡ Rebind) ⌝ }
     ensures { λ r. ⌜ r ≡ isSilence (serving (tableOf (now (t .entry))) time (read (now (msg .entry))) .verdict) ⌝ }
 {
-    let q = heard::asked_pd(msg);
-    decide::silent(t, time, heard::kind_of(msg), wire::find::client_id(msg), q)
+    let q = heard::asked_pd(msg, s.pd);
+    decide::silent(t, time, notes::client_of(msg, s.client), q)
+}
+
+// 8: by what would be said. Only a Rebind is ever passed over.
+fn passed_over(t: &[u8], time: u64, msg: &[u8], s: Notes) -> bool
+    requires { ⌜ Understood (now t) (now msg) × Noted (now msg) s ⌝ }
+    ensures { λ r. ⌜ r ≡ isSilence (serving (tableOf (now (t .entry))) time (read (now (msg .entry))) .verdict) ⌝ }
+{
+    match heard::kind_of(msg) {
+        Kind::Solicit => false,
+        Kind::Request => false,
+        Kind::Renew => false,
+        Kind::Rebind => rebind_passed_over(t, time, msg, s),
+        Kind::Release => false,
+    }
 }
 
 // The number of the first refusal that applies, or 0.
-pub fn judge(t: &[u8], time: u64, msg: &[u8], room: usize) -> u64
+pub fn judge(t: &[u8], time: u64, msg: &[u8], s: Notes, room: usize) -> u64
+    requires { ⌜ Heard (now msg) s ⌝ }
     ensures { λ r. ⌜ (r ≡ judged (now (t .entry)) time (now (msg .entry)) room) × (r < 10) ⌝ }
 {
     let a = by_table(t, time);
@@ -73,15 +94,15 @@ pub fn judge(t: &[u8], time: u64, msg: &[u8], room: usize) -> u64
     if room < 512 {
         return 2;
     }
-    let b = by_form(msg);
+    let b = by_form(msg, s);
     if b != 0 {
         return b;
     }
-    let c = by_ids(t, msg);
+    let c = by_ids(t, msg, s);
     if c != 0 {
         return c;
     }
-    if passed_over(t, time, msg) {
+    if passed_over(t, time, msg, s) {
         return 8;
     }
     0

@@ -8,7 +8,7 @@ use native.Mathlib.Nat.{add-sub-cancel-left}
 use borrow.Author.Tests.{eq-eqb, ne-eqb, lt-ltb, ltb-true}
 use lib.Dec.{eqb, ltb}
 use lib.ListN.{length, getD, take, drop}
-use Rattle.rules.specs.Words.{any, part, num, be, numAt}
+use Rattle.rules.specs.Words.{any, part, num, be, numAt, u16At}
 use Rattle.rules.specs.Prefix.{prefix, contentOk, unpacked}
 use Rattle.rules.specs.Options.{excludeOk, own, areaOf, options, count, nth, content}
 use Rattle.rules.specs.Message.{asks67, statusAt, exceptAt, listedAt, top, read}
@@ -18,6 +18,7 @@ use Rattle.rules.specs.declared.Checked.{Checked}
 use Rattle.rules.specs.declared.Found.{Found}
 use Rattle.rules.specs.declared.Found.the-variants.{At}
 use Rattle.laws.specs.Tests.{both}
+use Rattle.laws.specs.Parts.{part-cons}
 use Rattle.laws.specs.Numbers.{Bytes, bytes-part, num-lt, numAt-is}
 use Rattle.laws.specs.Steps.{any-map}
 use Rattle.laws.specs.Exclude as exclude
@@ -41,6 +42,11 @@ module _ (m : List ℕ) where
   pub stretch : (s n : ℕ) → take (s + n - s) (drop s m) ≡ part s n m
   unfolding part
   stretch s n = rw add-sub-cancel-left
+
+-- the number in two bytes
+pub two-bytes : (m : List ℕ) (at : ℕ) → Bytes m → at + 2 ≤ length m → numAt m at 2 ≡ u16At m at
+unfolding num part
+two-bytes m at b h = numAt-is m at 2 b h ∙ rw (part-cons at 1 m 0 (omega arith), part-cons (at + 1) 0 m 0 (omega arith)) (omega arith)
 
 -- what an option says does not depend on its place
 pub any-place : (t : Sought) (m : List ℕ) (p c s n : ℕ) {r : Bool} → r ≡ eqb c (codeOf t) && saying t m (At 0 s n) → r ≡ eqb c (codeOf t) && saying t m (At p s n)

@@ -42,11 +42,11 @@ pub fn step_at(msg: &[u8], at: usize, end: usize) -> Step
     if end - at < 4 {
         return Step::Bad(at);
     }
-    let len = u16_at(msg, at + 2);
+    let len = cells::get(msg, at + 2, 2) as usize;
     if end - at - 4 < len {
         return Step::Bad(at);
     }
-    let code = u16_at(msg, at);
+    let code = cells::get(msg, at, 2) as usize;
     Step::Opt {
         code,
         start: at + 4,

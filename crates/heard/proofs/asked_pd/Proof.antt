@@ -17,8 +17,8 @@ was c = cc
 at : (c : tie.After-start) → let g = c .start .given .0 in PdAt (now (c .before .before .before .before .args .msg)) (g .1 .0) (g .1 .1 .0)
 at c = pd-at _ (c .before .before .before .before .pre .0) (c .before .before .before .before .pre .1) (was c)
 
-only-requires : tie.Need-only-requires
-only-requires c κs = search needs
+one-requires : tie.Need-one-requires
+one-requires c κs = search needs
 
 enum-known-start : tie.Need-enum-known-start
 enum-known-start c = search needs
@@ -30,19 +30,19 @@ enum-told : tie.Need-enum-told
 enum-told c = search needs
 
 pd-at-requires-2 : tie.Need-pd-at-requires-2
-pd-at-requires-2 c κs = absurd (pd-there _ (c .before .before .before .before .pre .0) (c .before .before .before .before .pre .1) (sym (c .before .before .only .ensures) ∙ c .enum-told .given .1))
+pd-at-requires-2 c κs = absurd (pd-there _ (c .before .before .before .before .pre .0) (c .before .before .before .before .pre .1) (sym (c .before .before .one .ensures) ∙ c .enum-told .given .1))
 
 returns : tie.Need-returns
 returns c = pd-asked _ _ (at (c .before .before)) (c .pd-at .ensures)
 
 returns-2 : tie.Need-returns-2
-returns-2 c = absurd (pd-there _ (c .before .before .before .before .before .pre .0) (c .before .before .before .before .before .pre .1) (sym (c .before .before .before .only .ensures) ∙ c .before .enum-told .given .1))
+returns-2 c = absurd (pd-there _ (c .before .before .before .before .before .pre .0) (c .before .before .before .before .before .pre .1) (sym (c .before .before .before .one .ensures) ∙ c .before .enum-told .given .1))
 
 pub asked-pd-spec : {M : Type 1} → statement M
 asked-pd-spec =
     tie.close
     (tie.spec
-    only-requires
+    one-requires
     enum-known-start
     pd-at-requires
     enum-told

@@ -18,20 +18,14 @@ was c = cc
 id-wanted-requires : tie.Need-id-wanted-requires
 id-wanted-requires c κs = search needs
 
-add-count-of : tie.Need-add-count-of
-add-count-of c = search needs
-
-count-of-requires : tie.Need-count-of-requires
-count-of-requires c κs = search needs
-
 returns : tie.Need-returns
-returns c = let a = c .before .before .before .before .before .args in hold-none (now (a .own)) (a .kind) (a .id) (now (a .msg)) (c .before .before .id-wanted .ensures) (not-true _ (c .before .if1 .taken)) (c .count-of .ensures)
+returns c = let a = c .before .before .before .before .before .args in hold-none (now (a .own)) (a .kind) (a .id) (now (a .msg)) (c .before .before .id-wanted .ensures) (not-true _ (c .before .if1 .taken)) (c .before .before .before .before .before .pre .1 .counts)
 
-add-only : tie.Need-add-only
-add-only c = search needs
+add-one : tie.Need-add-one
+add-one c = search needs
 
-only-requires : tie.Need-only-requires
-only-requires c κs = search needs
+one-requires : tie.Need-one-requires
+one-requires c κs = search needs
 
 enum-known-start : tie.Need-enum-known-start
 enum-known-start c = search needs
@@ -46,18 +40,16 @@ returns-2 : tie.Need-returns-2
 returns-2 c = let a = c .before .before .before .before .before .before .before .before .before .args in hold-one (now (a .own)) (a .kind) (a .id) (now (a .msg)) (c .before .before .before .before .before .before .id-wanted .ensures) (not-false _ (c .before .before .before .before .before .if1 .left)) (was (c .before .before)) (c .id-good .ensures)
 
 returns-3 : tie.Need-returns-3
-returns-3 c = let a = c .before .before .before .before .before .before .before .args in hold-other (now (a .own)) (a .kind) (a .id) (now (a .msg)) (c .before .before .before .before .id-wanted .ensures) (not-false _ (c .before .before .before .if1 .left)) (sym (c .before .before .only .ensures) ∙ c .enum-told .given .1)
+returns-3 c = let a = c .before .before .before .before .before .before .before .args in hold-other (now (a .own)) (a .kind) (a .id) (now (a .msg)) (c .before .before .before .before .id-wanted .ensures) (not-false _ (c .before .before .before .if1 .left)) (sym (c .before .before .one .ensures) ∙ c .enum-told .given .1)
 
 pub ids-hold-spec : {M : Type 1} → statement M
 ids-hold-spec =
     tie.close
     (tie.spec
     id-wanted-requires
-    add-count-of
-    count-of-requires
     returns
-    add-only
-    only-requires
+    add-one
+    one-requires
     enum-known-start
     id-good-requires
     enum-told

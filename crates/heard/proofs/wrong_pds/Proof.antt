@@ -13,8 +13,8 @@ use Rattle.heard.proofs.wrong_pds.Tie as tie
 was : (c : tie.After-start) → let g = c .start .given .0 in onlyOf 25 (now (c .before .before .before .before .args .msg)) ≡ At (g .0) (g .1 .0) (g .1 .1 .0)
 was c = cc
 
-only-requires : tie.Need-only-requires
-only-requires c κs = search needs
+one-requires : tie.Need-one-requires
+one-requires c κs = search needs
 
 enum-known-start : tie.Need-enum-known-start
 enum-known-start c = search needs
@@ -29,9 +29,9 @@ returns : tie.Need-returns
 returns c = few-pds _ (was (c .before .before)) (c .listed-in .ensures)
 
 returns-2 : tie.Need-returns-2
-returns-2 c = other-pds _ (sym (c .before .before .only .ensures) ∙ c .enum-told .given .1)
+returns-2 c = other-pds _ (sym (c .before .before .one .ensures) ∙ c .enum-told .given .1)
 
 pub wrong-pds-spec : {M : Type 1} → statement M
 wrong-pds-spec =
     tie.close
-    (tie.spec only-requires enum-known-start listed-in-requires enum-told returns returns-2)
+    (tie.spec one-requires enum-known-start listed-in-requires enum-told returns returns-2)

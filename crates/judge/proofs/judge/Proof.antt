@@ -1,7 +1,10 @@
 -- Each part of the tests in turn.
+use mathlib.Core.Path.{refl}
+use denote.Ref.{now}
 use borrow.Author.Needs.{needs}
 use lib.Dec.{lit<}
-use Rattle.judge.proofs.Laws.{judged-table, is-sound, judged-2, judged-form, judged-ids, understood, judged-8, judged-0}
+use Rattle.notes.specs.Noted.{Noted}
+use Rattle.judge.proofs.Laws.{judged-table, is-sound, judged-2, judged-form, noted, judged-ids, understood, judged-8, judged-0}
 use Rattle.judge.proofs.judge.Statement.{statement}
 use Rattle.judge.proofs.judge.Tie as tie
 
@@ -20,14 +23,18 @@ by-form-requires c κs = search needs
 returns-3 : tie.Need-returns-3
 returns-3 c = (judged-form _ _ _ _ (c .before .before .before .before .by-table .ensures .0) (c .before .before .before .if1 .left) (c .before .before .if2 .left) (c .before .by-form .ensures .0) (c .if3 .taken), c .before .by-form .ensures .1)
 
+-- the notes of a well-formed message
+heard : (c : tie.Else3) → let a = c .before .before .before .before .before .before .before .args in Noted (now (a .msg)) (a .s)
+heard c = let s = c .before .before .before .before .before .before .before in noted _ _ _ (s .args .room) (c .before .before .before .before .by-table .ensures .0) (c .before .before .before .if1 .left) (c .before .before .if2 .left) (c .before .by-form .ensures .0) (c .if3 .left) refl (s .args .s) (s .pre)
+
 by-ids-requires : tie.Need-by-ids-requires
-by-ids-requires c κs = is-sound _ (c .before .before .before .before .before .before .before .args .msg .now) _ (c .before .before .before .before .before .before .before .args .room) (c .before .before .before .before .by-table .ensures .0) (c .before .before .before .if1 .left)
+by-ids-requires c κs = let s = c .before .before .before .before .before .before .before in (is-sound _ (s .args .msg .now) _ (s .args .room) (c .before .before .before .before .by-table .ensures .0) (c .before .before .before .if1 .left), heard c)
 
 returns-4 : tie.Need-returns-4
 returns-4 c = (judged-ids _ _ _ _ (c .before .before .before .before .before .before .by-table .ensures .0) (c .before .before .before .before .before .if1 .left) (c .before .before .before .before .if2 .left) (c .before .before .before .by-form .ensures .0) (c .before .before .if3 .left) (c .before .by-ids .ensures .0) (c .if4 .taken), c .before .by-ids .ensures .1)
 
 passed-over-requires : tie.Need-passed-over-requires
-passed-over-requires c κs = understood _ _ _ _ (c .before .before .before .before .before .before .by-table .ensures .0) (c .before .before .before .before .before .if1 .left) (c .before .before .before .before .if2 .left) (c .before .before .before .by-form .ensures .0) (c .before .before .if3 .left) (c .before .by-ids .ensures .0) (c .if4 .left)
+passed-over-requires c κs = (understood _ _ _ _ (c .before .before .before .before .before .before .by-table .ensures .0) (c .before .before .before .before .before .if1 .left) (c .before .before .before .before .if2 .left) (c .before .before .before .by-form .ensures .0) (c .before .before .if3 .left) (c .before .by-ids .ensures .0) (c .if4 .left), heard (c .before .before))
 
 returns-5 : tie.Need-returns-5
 returns-5 c = (judged-8 _ _ _ _ (c .before .before .before .before .before .before .before .before .by-table .ensures .0) (c .before .before .before .before .before .before .before .if1 .left) (c .before .before .before .before .before .before .if2 .left) (c .before .before .before .before .before .by-form .ensures .0) (c .before .before .before .before .if3 .left) (c .before .before .before .by-ids .ensures .0) (c .before .before .if4 .left) (c .before .passed-over .ensures) (c .if5 .taken), lit< tt)

@@ -1,25 +1,59 @@
--- The IA_PD, the kind and the DUID as they are read.
+-- By the kind.
+use mathlib.Core.Path.{_∙_, refl, sym}
+use Rattle.judge.proofs.Laws.{over-other}
 use borrow.Author.Needs.{needs}
-use Rattle.judge.proofs.Laws.{over-is}
 use Rattle.judge.proofs.passed_over.Statement.{statement}
 use Rattle.judge.proofs.passed_over.Tie as tie
-
-asked-pd-requires : tie.Need-asked-pd-requires
-asked-pd-requires c κs = search needs
 
 kind-of-requires : tie.Need-kind-of-requires
 kind-of-requires c κs = search needs
 
-client-id-requires : tie.Need-client-id-requires
-client-id-requires c κs = search needs
+enum-told : tie.Need-enum-told
+enum-told c = search needs
 
-silent-requires : tie.Need-silent-requires
-silent-requires c κs = search needs
+enum-told-2 : tie.Need-enum-told-2
+enum-told-2 c = search needs
+
+enum-told-3 : tie.Need-enum-told-3
+enum-told-3 c = search needs
+
+enum-told-4 : tie.Need-enum-told-4
+enum-told-4 c = search needs
+
+rebind-passed-over-requires : tie.Need-rebind-passed-over-requires
+rebind-passed-over-requires c κs = let s = c .before .before .before .before .before in (s .pre .0, s .pre .1, sym (c .before .before .kind-of .ensures) ∙ c .enum-told4 .given .1)
+
+enum-told-5 : tie.Need-enum-told-5
+enum-told-5 c = search needs
 
 returns : tie.Need-returns
-returns c = over-is _ _ _ _ (c .before .before .before .before .before .before .pre) (c .before .before .before .asked-pd .ensures .0) (c .before .before .kind-of .ensures) (c .before .client-id .ensures) (c .silent .ensures)
+returns c = over-other _ _ _ (c .before .before .kind-of .ensures) (c .enum-told .given .1) refl
+
+returns-2 : tie.Need-returns-2
+returns-2 c = over-other _ _ _ (c .before .before .kind-of .ensures) (c .enum-told2 .given .1) refl
+
+returns-3 : tie.Need-returns-3
+returns-3 c = over-other _ _ _ (c .before .before .kind-of .ensures) (c .enum-told3 .given .1) refl
+
+returns-4 : tie.Need-returns-4
+returns-4 c = search needs
+
+returns-5 : tie.Need-returns-5
+returns-5 c = over-other _ _ _ (c .before .before .kind-of .ensures) (c .enum-told5 .given .1) refl
 
 pub passed-over-spec : {M : Type 1} → statement M
 passed-over-spec =
     tie.close
-    (tie.spec asked-pd-requires kind-of-requires client-id-requires silent-requires returns)
+    (tie.spec
+    kind-of-requires
+    enum-told
+    enum-told-2
+    enum-told-3
+    enum-told-4
+    rebind-passed-over-requires
+    enum-told-5
+    returns
+    returns-2
+    returns-3
+    returns-4
+    returns-5)

@@ -7,7 +7,7 @@ use Rattle.act.proofs.answer.answer.Statement.{statement}
 use Rattle.act.proofs.answer.answer.Tie as tie
 
 setup-of-requires : tie.Need-setup-of-requires
-setup-of-requires c κs = omega (arith, held _ (c .before .before .before .pre .0 .sound) .size)
+setup-of-requires c κs = omega (arith, held _ (c .before .before .before .before .pre .0 .sound) .size)
 
 pd-for-requires : tie.Need-pd-for-requires
 pd-for-requires c κs = search needs
@@ -21,26 +21,23 @@ has-pd-requires c κs = search needs
 head-for-requires : tie.Need-head-for-requires
 head-for-requires c κs = search needs
 
-client-id-requires : tie.Need-client-id-requires
-client-id-requires c κs = search needs
-
 own-of-requires : tie.Need-own-of-requires
 own-of-requires c κs = search needs
 
 write-message-requires : tie.Need-write-message-requires
 write-message-requires c κs = (
-  client-fits _ _ _ _ (c .before .before .before .before .before .before .before .before .before .before .before .pre .0) (c .before .client-id .ensures),
+  client-fits _ _ _ _ (c .before .before .before .before .before .before .before .before .before .before .before .pre .0) (c .before .before .before .before .before .before .before .before .before .before .before .pre .2),
   own-fits _ _ _ _ (c .before .before .before .before .before .before .before .before .before .before .before .pre .0) (c .own-of .ensures),
-  omega (arith, c .before .before .before .head-for .ensures .status),
-  answer-able _ _ _ _ (c .before .before .before .before .before .before .before .before .before .before .before .pre .0) _ (c .before .before .before .before .before .before .before .setup-of .ensures) _ (c .before .before .before .before .before .before .pd-for .ensures .1) (c .before .before .before .before .before .before .pd-for .ensures .2),
-  room-fits _ _ _ _ (c .before .before .before .before .before .before .before .before .before .before .before .pre .0) (answer-is _ _ _ _ (c .before .before .before .before .before .before .before .before .before .before .before .pre .0) _ (c .before .before .before .before .before .before .before .setup-of .ensures) _ (c .before .before .before .before .before .before .pd-for .ensures .0) (c .before .before .before .before .has-pd .ensures) _ (c .before .before .before .head-for .ensures) (c .before .client-id .ensures) (c .own-of .ensures)) (c .before .before .before .before .before .before .before .before .before .before .before .pre .1),
+  omega (arith, c .before .before .head-for .ensures .status),
+  answer-able _ _ _ _ (c .before .before .before .before .before .before .before .before .before .before .before .pre .0) _ (c .before .before .before .before .before .before .setup-of .ensures) _ (c .before .before .before .before .before .pd-for .ensures .1) (c .before .before .before .before .before .pd-for .ensures .2),
+  room-fits _ _ _ _ (c .before .before .before .before .before .before .before .before .before .before .before .pre .0) (answer-is _ _ _ _ (c .before .before .before .before .before .before .before .before .before .before .before .pre .0) _ (c .before .before .before .before .before .before .setup-of .ensures) _ (c .before .before .before .before .before .pd-for .ensures .0) (c .before .before .before .has-pd .ensures) _ (c .before .before .head-for .ensures) (c .before .before .before .before .before .before .before .before .before .before .before .pre .2) (c .own-of .ensures)) (c .before .before .before .before .before .before .before .before .before .before .before .pre .1),
 )
 
 same-length : tie.Need-same-length
 same-length c = search needs
 
 returns : tie.Need-returns
-returns c = written _ _ _ _ (answer-is _ _ _ _ (c .before .before .before .before .before .before .before .before .before .before .before .before .before .before .pre .0) _ (c .before .before .before .before .before .before .before .before .before .before .setup-of .ensures) _ (c .before .before .before .before .before .before .before .before .before .pd-for .ensures .0) (c .before .before .before .before .before .before .before .has-pd .ensures) _ (c .before .before .before .before .before .before .head-for .ensures) (c .before .before .before .before .client-id .ensures) (c .before .before .before .own-of .ensures)) _ (c .before .before .write-message .ensures)
+returns c = written _ _ _ _ (answer-is _ _ _ _ (c .before .before .before .before .before .before .before .before .before .before .before .before .before .before .pre .0) _ (c .before .before .before .before .before .before .before .before .before .setup-of .ensures) _ (c .before .before .before .before .before .before .before .before .pd-for .ensures .0) (c .before .before .before .before .before .before .has-pd .ensures) _ (c .before .before .before .before .before .head-for .ensures) (c .before .before .before .before .before .before .before .before .before .before .before .before .before .before .pre .2) (c .before .before .before .own-of .ensures)) _ (c .before .before .write-message .ensures)
 
 pub answer-spec : {M : Type 1} → statement M
 answer-spec =
@@ -51,7 +48,6 @@ answer-spec =
     kind-of-requires
     has-pd-requires
     head-for-requires
-    client-id-requires
     own-of-requires
     write-message-requires
     same-length
