@@ -1,15 +1,14 @@
 -- What a walk over a message notes.
---   noteOn, notesOn, blank   one more option; no option
---   IsNote, Noted, Heard     the notes of a whole message
-use Prim.Native.Nat.{ℕ, _+_, _<_}
+--   noteOn, isCounted      one more option of a code; which codes are counted
+--   IsNote, Noted, Heard   the notes of a whole message
+use Prim.Native.Nat.{ℕ, _+_}
 use mathlib.Core.Path.{_≡_}
-use mathlib.Core.Bool.{Bool, true, false, cond, not, _&&_, _||_}
+use mathlib.Core.Bool.{Bool, true, cond, not, _&&_, _||_}
 use mathlib.Core.List.{List}
 use lib.Dec.{eqb}
-use Rattle.rules.specs.Words.{part}
 use Rattle.rules.specs.Refusals.{wrongSize}
 use Rattle.rules.specs.Options.{count, nth}
-use Rattle.rules.specs.Message.{asks67, top, read, wellFormed}
+use Rattle.rules.specs.Message.{top, read, wellFormed}
 use Rattle.rules.specs.declared.Found.the-variants.{At, Nothing}
 use Rattle.notes.specs.declared.Note.{Note}
 use Rattle.notes.specs.declared.Notes.{Notes}
@@ -21,23 +20,15 @@ noteOn w p c s n x =
     (record { count = x .count + 1; first = cond (eqb (x .count) 0) (At p s n) (x .first) })
     x
 
-unfoldable pub notesOn : List ℕ → ℕ → ℕ → ℕ → ℕ → Notes → Notes
-notesOn m p c s n x = record {
-  formed = x .formed;
-  client = noteOn 1 p c s n (x .client);
-  server = noteOn 2 p c s n (x .server);
-  pd = noteOn 25 p c s n (x .pd);
-  asks = x .asks || (eqb c 6 && asks67 (part s n m));
-}
+-- Client IDs, Server IDs, IA_PDs
+unfoldable pub isCounted : ℕ → Bool
+isCounted c = eqb c 1 || eqb c 2 || eqb c 25
 
 abbrev pub empty : Note
 empty = record { count = 0; first = Nothing }
 
-abbrev pub blank : Bool → Notes
-blank b = record { formed = b; client = empty; server = empty; pd = empty; asks = false }
-
-abbrev pub Few : Notes → ℕ → Type 0
-Few x k = (x .client .count < k) × (x .server .count < k) × (x .pd .count < k)
+abbrev pub notes : Bool → Note → Note → Note → Bool → Notes
+notes f c s p a = record { formed = f; client = c; server = s; pd = p; asks = a }
 
 pub record IsNote (w : ℕ) (m : List ℕ) (x : Note) : Type 0 where
   pub counts : x .count ≡ count w (top m)

@@ -1,13 +1,15 @@
 // What one walk over a message notes for every question that is asked of it.
 ghost use mathlib.Core.Path.{_≡_};
-ghost use mathlib.Core.Bool.{_&&_, _||_};
+ghost use mathlib.Core.Bool.{false, _&&_, _||_};
 ghost use Prim.Native.Nat.{_+_, _≤_, _<_, _^_};
 ghost use lib.Dec.{eqb};
 ghost use lib.ListN.{length};
 ghost use Rattle.rules.specs.Words.{part};
+ghost use Rattle.rules.specs.Options.{own, isGood};
 ghost use Rattle.rules.specs.Message.{asks67};
+ghost use Rattle.rules.specs.declared.Level.the-variants.{Top};
 ghost use Rattle.wire.specs.Client.{clientStretch};
-ghost use Rattle.notes.specs.Noted.{noteOn, notesOn, empty, blank, Few, IsNote, Heard};
+ghost use Rattle.notes.specs.Noted.{noteOn, isCounted, notes, empty, IsNote, Heard};
 use rules::Checked;
 use rules::Found;
 use rules::Level;
@@ -74,41 +76,55 @@ fn asking(msg: &[u8], asks: bool, code: usize, start: usize, len: usize) -> bool
     asks | asks67(msg, start, len)
 }
 
-// The notes with one more option.
-fn noted(msg: &[u8], s: Notes, place: usize, code: usize, start: usize, len: usize) -> Notes
-    requires { ⌜ (start + len ≤ length (now msg)) × Few s (2 ^ 63) ⌝ }
-    ensures { λ r. ⌜ r ≡ notesOn (now (msg .entry)) place code start len s ⌝ }
+// Whether an option is good where it stands.
+fn good(msg: &[u8], place: usize, code: usize, start: usize, len: usize) -> bool
+    requires { ⌜ start + len ≤ length (now msg) ⌝ }
+    ensures { λ r. ⌜ r ≡ isGood (own Top (now (msg .entry)) 0 place code start len) ⌝ }
 {
-    Notes {
-        formed: s.formed,
-        client: one_more(s.client, 1, place, code, start, len),
-        server: one_more(s.server, 2, place, code, start, len),
-        pd: one_more(s.pd, 25, place, code, start, len),
-        asks: asking(msg, s.asks, code, start, len),
+    if code == 25 {
+        return match check_one(msg, Level::Top, 0, place, code, start, len) {
+            Checked::Good => true,
+            Checked::Broken(_) => false,
+        };
     }
+    if code == 6 {
+        return len % 2 == 0;
+    }
+    (code != 13) | (2 <= len)
 }
 
-// The notes of no option.
-fn blank(formed: bool) -> Notes
-    ensures { λ r. ⌜ r ≡ blank formed ⌝ }
+// Whether options of that code are counted.
+fn is_counted(code: usize) -> bool
+    ensures { λ r. ⌜ r ≡ isCounted code ⌝ }
 {
+    (code == 1) | (code == 2) | (code == 25)
+}
+
+// The notes of a message that isn't walked to its end.
+fn no_notes() -> Notes
+    ensures { λ r. ⌜ r ≡ notes false empty empty empty false ⌝ }
+{
+    let none = nothing();
     Notes {
-        formed,
-        client: nothing(),
-        server: nothing(),
-        pd: nothing(),
+        formed: false,
+        client: none,
+        server: none,
+        pd: none,
         asks: false,
     }
 }
 
-// The notes of a message.
+// The notes of a message. Most options tell nothing, so they are passed over at once.
 pub fn notes_of(msg: &[u8]) -> Notes
     ensures { λ r. ⌜ Heard (now (msg .entry)) r ⌝ }
 {
     if (msg.len() < 4) | (1232 < msg.len()) {
-        return blank(false);
+        return no_notes();
     }
-    let mut s = blank(true);
+    let mut client = nothing();
+    let mut server = nothing();
+    let mut pd = nothing();
+    let mut asks = false;
     let mut p: usize = 4;
     loop {
         match step_at(msg, p, msg.len()) {
@@ -118,17 +134,28 @@ pub fn notes_of(msg: &[u8]) -> Notes
                 len,
                 next,
             } => {
-                if let Checked::Broken(_) = check_one(msg, Level::Top, 0, p, code, start, len) {
-                    return blank(false);
+                if !good(msg, p, code, start, len) {
+                    return no_notes();
                 }
-                s = noted(msg, s, p, code, start, len);
+                asks = asking(msg, asks, code, start, len);
+                if is_counted(code) {
+                    client = one_more(client, 1, p, code, start, len);
+                    server = one_more(server, 2, p, code, start, len);
+                    pd = one_more(pd, 25, p, code, start, len);
+                }
                 p = next;
             }
             Step::End => {
-                return s;
+                return Notes {
+                    formed: true,
+                    client,
+                    server,
+                    pd,
+                    asks,
+                };
             }
             Step::Bad(_) => {
-                return blank(false);
+                return no_notes();
             }
         }
     }
