@@ -3,12 +3,16 @@
 use crate::messages::{message, opening, real, Identity};
 use crate::sides::{Lengths, OWN, PLAIN, PROVED};
 use reference::prefix::Prefix;
-use reference::wire::LONGEST_MESSAGE;
+use reference::wire::{ia_pd_option, ia_prefix_option, LONGEST_MESSAGE};
 use reference::{TableBytes, REBIND, RECORD_BYTES, RELEASE, RENEW, REQUEST, SOLICIT, TABLE_BYTES};
 
 const POOL: u64 = 0x2001_0db8_0000_0000;
 const FIRST_RECORD: usize = 176;
+/// Code and length, IAID, T1, T2.
+const IA_PD_HEAD: usize = 16;
 const FIRST_END: u64 = 2_000;
+/// Before the time of every call.
+const ENDED: u64 = 900;
 const NEW: usize = 256;
 /// A pool of 4,096 prefixes of the standard length.
 const USUAL: Lengths = Lengths { pool: 48, shortest: 56, standard: 60 };
@@ -18,6 +22,8 @@ const WIDE: Lengths = Lengths { pool: 32, shortest: 32, standard: 32 };
 pub struct Input {
     pub name: String,
     pub records: usize,
+    /// How many of them haven't ended.
+    pub live: usize,
     pub table: Box<TableBytes>,
     pub message: Vec<u8>,
     /// The refusal that it meets, 0 for an answer.
@@ -30,6 +36,8 @@ struct World {
     /// Record i of n.
     order: (&'static str, fn(usize, usize) -> (u64, u8)),
     lengths: Lengths,
+    /// When the first record ends; the others follow.
+    first_end: u64,
 }
 
 /// A real one with an IAID of its own, from the device's address as dhclient makes it.
@@ -44,6 +52,32 @@ fn late(i: usize) -> Identity {
     let mut duid = vec![7; 130];
     duid[119] = (i == NEW) as u8;
     duid[120] = (i as u8).wrapping_mul(97);
+    Identity { iaid: 1, duid }
+}
+
+/// 130 bytes, alike but for the last byte that the look by identity doesn't see.
+fn last(i: usize) -> Identity {
+    let mut duid = vec![7; 130];
+    duid[119] = (i == NEW) as u8;
+    duid[126] = (i as u8).wrapping_mul(97);
+    Identity { iaid: 1, duid }
+}
+
+/// As late ones, but a look at their ends tells all apart, save for two: it finds that out at the last record.
+fn twins(i: usize) -> Identity {
+    let Identity { iaid, mut duid } = late(i);
+    duid[129] = if i == 255 { 254 } else { i as u8 };
+    Identity { iaid, duid }
+}
+
+/// 130 bytes in which eight numbers of six bytes are one of two each: two neighbours by name share much, and each merge of
+/// runs finds that they share a little more.
+fn tree(i: usize) -> Identity {
+    let mut duid = vec![7; 130];
+    duid[77] = (i == NEW) as u8;
+    for bit in 0..8 {
+        duid[83 + 6 * bit] = (i >> bit & 1) as u8;
+    }
     Identity { iaid: 1, duid }
 }
 
@@ -87,6 +121,23 @@ fn long(mut text: Vec<u8>) -> Vec<u8> {
     text
 }
 
+/// The same before the message's own options, which are then found last.
+fn long_before(text: Vec<u8>) -> Vec<u8> {
+    let mut whole = long(text.clone());
+    let filling = whole.split_off(text.len());
+    let own = whole.split_off(4);
+    [whole, filling, own].concat()
+}
+
+/// As long as it may be by an IA_PD of such options, with four IA Prefixes after them.
+fn deep(kind: u8, from: &Identity, prefix: Prefix) -> Vec<u8> {
+    let listed = ia_prefix_option(0, 0, prefix, None).expect("a prefix").repeat(4);
+    let opening = opening(kind, from, OWN);
+    let size = LONGEST_MESSAGE - opening.len() - IA_PD_HEAD - listed.len();
+    let filling = [0xFF, 0, 0, 0].repeat(size / 4);
+    [opening, ia_pd_option(from.iaid, 0, 0, &[filling, listed].concat()).expect("a short one")].concat()
+}
+
 /// All of the pool, in its order and as evenly as can be: no length has a free place, so each one is tried; from the
 /// records' own length on every record stands in the way once, and before it the tries hit as late as can be.
 fn filled(i: usize, n: usize) -> (u64, u8) {
@@ -122,7 +173,7 @@ impl World {
         let mut table = empty(&self.lengths);
         table[8..10].copy_from_slice(&(n as u16).to_be_bytes());
         for (i, room) in table[FIRST_RECORD..].chunks_exact_mut(RECORD_BYTES).take(n).enumerate() {
-            write_record(room, (self.identities.1)(i), (self.order.1)(i, n), FIRST_END + i as u64);
+            write_record(room, (self.identities.1)(i), (self.order.1)(i, n), if i == 0 { self.first_end } else { FIRST_END + i as u64 });
         }
         table
     }
@@ -143,6 +194,8 @@ impl World {
             "renew" => message(RENEW, &bound, OWN, own()),
             "renew-long" => long(message(RENEW, &bound, OWN, own())),
             "rebind" => message(REBIND, &bound, OWN, own()),
+            "rebind-long" => long_before(message(REBIND, &bound, OWN, own())),
+            "rebind-deep" => deep(REBIND, &bound, own().expect("a prefix")),
             "release" => message(RELEASE, &bound, OWN, own()),
             "refused-5" => [message(RENEW, &bound, OWN, own()), vec![0, 0]].concat(),
             "refused-7" => opening(SOLICIT, &new, OWN),
@@ -158,7 +211,8 @@ impl World {
     fn input(&self, kind: &str, records: usize) -> Input {
         let name = format!("{} {} {kind}", self.identities.0, self.order.0);
         let refusal = kind.strip_prefix("refused-").map_or(0, |number| number.parse().expect("a number"));
-        Input { name, records, table: self.table(records), message: self.message(kind, records), refusal }
+        let live = records - (self.first_end == ENDED) as usize;
+        Input { name, records, live, table: self.table(records), message: self.message(kind, records), refusal }
     }
 }
 
@@ -187,6 +241,22 @@ const KINDS: [&str; 11] = [
     "refused-7",
 ];
 
+const DEAR: [&str; 6] = ["live", "renew", "renew-long", "rebind", "rebind-long", "rebind-deep"];
+
+/// Tables and messages that were made to be dear.
+fn dear() -> Vec<Input> {
+    let identities: [(&str, fn(usize) -> Identity); 5] =
+        [("real", real), ("late", late), ("last", last), ("twins", twins), ("tree", tree)];
+    let mut all = Vec::new();
+    for identities in identities {
+        for (name, first_end) in [("mixed", FIRST_END), ("mixed-ended", ENDED)] {
+            let world = World { identities, order: (name, mixed), lengths: USUAL, first_end };
+            all.extend(DEAR.map(|kind| world.input(kind, 256)));
+        }
+    }
+    all
+}
+
 /// Everything that is measured.
 pub fn inputs() -> Vec<Input> {
     let mut all = Vec::new();
@@ -196,12 +266,13 @@ pub fn inputs() -> Vec<Input> {
     for identities in identities {
         for order in orders {
             let every = order.0 == "ascending" && identities.0 != "iaids";
-            let kinds = if every { &KINDS[..] } else { &["live", "renew", "renew-long"] };
-            all.extend(World { identities, order, lengths: USUAL }.inputs(kinds));
+            let kinds = if every { &KINDS[..] } else { &["live"] };
+            all.extend(World { identities, order, lengths: USUAL, first_end: FIRST_END }.inputs(kinds));
         }
     }
-    let identities = identities[0];
-    all.extend(World { identities, order: ("packed", packed), lengths: USUAL }.inputs(&["live", "solicit-new"]));
-    all.extend(World { identities, order: ("filled", filled), lengths: WIDE }.inputs(&["live", "solicit-worst"]));
+    let real = |order, lengths| World { identities: identities[0], order, lengths, first_end: FIRST_END };
+    all.extend(real(("packed", packed), USUAL).inputs(&["live", "solicit-new"]));
+    all.extend(real(("filled", filled), WIDE).inputs(&["live", "solicit-worst"]));
+    all.extend(dear());
     all
 }

@@ -54,7 +54,7 @@ fn check(input: &Input) {
     }
     let (word, _, answer) = ours;
     if input.message.is_empty() {
-        assert_eq!(word, input.records as u64, "{name}");
+        assert_eq!(word, input.live as u64, "{name}");
     } else {
         assert_eq!(word >> 16, input.refusal, "{name}");
     }

@@ -67,6 +67,26 @@ function choice(title, world, kind) {
     print "| " title " |" cells(world, kind, "proved", "", "rest") cells(world, kind, "proved", "plain", "rest")
 }
 
+# One row a table, one column a message: in copies of the table, and as a multiple of the typical message of its kind.
+function dear(    i, j, k, who, order, kind, line, x) {
+    split("real late last twins tree", who, " ")
+    split("mixed mixed-ended", order, " ")
+    split("renew renew-long rebind rebind-long rebind-deep", kind, " ")
+    line = "| identities, order |"
+    for (k = 1; k in kind; k++) line = line " " kind[k] " |"
+    print "\n" line
+    gsub(/[^|]+/, "---", line)
+    print line
+    for (i = 1; i in who; i++) for (j = 1; j in order; j++) {
+        line = "| " who[i] ", " order[j] " |"
+        for (k = 1; k in kind; k++) {
+            x = cost(who[i] SUBSEP order[j], kind[k], 4, "proved")
+            line = line " " show(x / copy) " (" show(x / cost("real" SUBSEP "ascending", k < 3 ? "renew" : "rebind", 4, "proved")) ") |"
+        }
+        print line
+    }
+}
+
 END {
     kinds = "solicit-new,solicit-bound,request-new,request-bound,renew,renew-long,rebind,release,refused-5,refused-7"
     titles = "Solicit: new,Solicit: bound,Request: new,Request: bound,Renew,Renew of 1232 bytes,Rebind,Release,refused with 5,refused with 7"
@@ -77,6 +97,8 @@ END {
     messages("late" SUBSEP "ascending", kinds, titles)
     print "\nSoundness by identities and by the records' order"
     soundness()
+    print "\nTables and messages made to be dear, 256 records: in copies of the table, and as a multiple of the typical Renew or Rebind"
+    dear()
     print "\nThe choice of a prefix, less soundness"
     head("Solicit from a new identity", "proved ÷ memcpy", "proved ÷ plain")
     choice("the first place is free", "real" SUBSEP "ascending", "solicit-new")

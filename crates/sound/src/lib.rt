@@ -164,7 +164,7 @@ fn all_clear(t: &[u8], area: bool, m: u64, n: usize) -> bool
         return true;
     }
     if !area {
-        return shared::no_name_twice(t, n);
+        return shared::no_name_twice(t, &mut keys, n);
     }
     ranks::put_keys(t, true, 64, n, &mut keys);
     ordered::apart(t, &keys, n)

@@ -20,11 +20,14 @@ plain-requires c κs = search needs
 returns : tie.Need-returns
 returns c = keys-told _ _ _ _ _ (c .before .before .before .before .before .before .before .args .area) (c .before .before .before .before .before .before .before .pre .2) (λ i. c .before .before .before .before .before .before .shared-slice-known .given i .fits) (search needs) (search needs) (search needs) (c .before .before .before .before .before .before .before .pre .4) (c .before .before .before .before .put-keys .ensures) (c .before .plain .ensures (c .if1 .taken))
 
+slice-aggregate-no-name-twice : tie.Need-slice-aggregate-no-name-twice
+slice-aggregate-no-name-twice c = search needs
+
 no-name-twice-requires : tie.Need-no-name-twice-requires
 no-name-twice-requires c κs = search needs
 
 returns-2 : tie.Need-returns-2
-returns-2 c = rw (not-true (c .before .before .before .before .before .before .before .before .before .args .area) (c .before .if2 .taken)) (c .no-name-twice .ensures)
+returns-2 c = rw (not-true (c .before .before .before .before .before .before .before .before .before .before .before .args .area) (c .before .before .before .if2 .taken)) (c .before .no-name-twice .ensures)
 
 slice-aggregate-put-keys-2 : tie.Need-slice-aggregate-put-keys-2
 slice-aggregate-put-keys-2 c = search needs
@@ -50,6 +53,7 @@ all-clear-spec =
     slice-aggregate-plain
     plain-requires
     returns
+    slice-aggregate-no-name-twice
     no-name-twice-requires
     returns-2
     slice-aggregate-put-keys-2
