@@ -25,6 +25,7 @@ use Rattle.laws.specs.Sound.{Good, good-facts, sound-facts, sound-made}
 use Rattle.laws.specs.Change.{tidied, onRecords, held, tidied-held}
 use Rattle.laws.specs.Accepted.{Accepted, accepted, verdict-said, answer-sendable}
 use Rattle.notes.specs.Noted.{Noted, Heard}
+use Rattle.notes.specs.Facts.{is-noted}
 use Rattle.notes.specs.declared.Notes.{Notes}
 use Rattle.judge.specs.Judged.{judged}
 use Rattle.said.specs.Said.{listedFor}
@@ -127,8 +128,8 @@ module _ (b m : List ℕ) (now room : ℕ) {n : ℕ} (j : n ≡ judged b now m r
     size = rw reply-is (answer-sendable a .size);
   }
 
-  pub is-noted : (s : Notes) → Heard m s → Noted m s
-  is-noted s h = h .noted (h .formed ∙ rw (a .sized, a .formed))
+  pub has-notes : (s : Notes) → Heard m s → Noted m s
+  has-notes s h = is-noted m s h (a .sized) (a .formed)
 
   pub is-handled : (out : List ℕ) → length out ≡ room → servedOn c now m out ≡ boxHandled b now m out
   unfolding servedOn

@@ -8,20 +8,21 @@ use native.Mathlib.Nat.{add-sub-cancel-left}
 use native.Mathlib.Numerals.{add-one}
 use borrow.Author.Tests.{eq-eqb, ne-eqb, le-leb, lt-leb, ltb-true, ltb-false}
 use lib.Dec.{eqb, leb, ltb}
-use lib.ListN.{length, getD, take, drop, set, length-set, length-map, List·getD-eq-default, List·getD-map, drop-of-length-le}
+use lib.ListN.{length, getD, take, drop, set, length-set, length-map, length-drop, List·getD-eq-default}
 use lib.Seq.{take-suc-set, drop-cons, take-length}
 use Rattle.rules.specs.Words.{all, part, sameBytes, numAt}
 use Rattle.rules.specs.Options.{areaOf, options, count, nth}
-use Rattle.rules.specs.Message.{Listed, listedAt, iaAt, top, read, wellFormed}
+use Rattle.rules.specs.Message.{listedAt, iaAt, top, read, wellFormed}
 use Rattle.rules.specs.Identity.{Duid, kindOf, identityRows, rowOf, stands, rowHolds}
 use Rattle.rules.specs.Box.{iaOf as askedIa, wrongPds}
 use Rattle.rules.specs.declared.Kind.the-variants.{Release}
 use Rattle.rules.specs.declared.Found.{Found}
 use Rattle.rules.specs.declared.Found.the-variants.{At, Nothing}
 use Rattle.laws.specs.Walk.{options-end}
+use Rattle.laws.specs.Steps.{Stepped, Stopped, options-here, options-past}
 use Rattle.laws.specs.Parts.{length-part}
 use Rattle.laws.specs.Same.{other-length}
-use Rattle.laws.specs.Formed.{listed-place, ia-place}
+use Rattle.laws.specs.Formed.{PdFormed, PrefixFormed, formed-prefix, listed-place, ia-place}
 use Rattle.laws.specs.One.{map-append}
 use Rattle.values.specs.Values.{listedOf, firstListed, iaOf}
 use Rattle.values.specs.declared.IaPrefix.{IaPrefix}
@@ -153,42 +154,64 @@ other-pds m h = rw (length-map, ne-eqb (count 25 (top m)) 1 (only-nothing 25 m h
 
 -- ---------------------------------------------------------------- its prefixes
 
--- an IA Prefix that was found, and none
-module _ (m : List ℕ) (k at e : ℕ) (x : IaPrefix) where
-  pub prefix-found : {p s n : ℕ} → nth 26 k (areaOf m at e) ≡ At p s n → listedOf x (listedAt m (At 0 s n) .statuses) ≡ listedAt m (At 0 s n)
-      → listedOf x [] ≡ bare (listedAt m (nth 26 k (areaOf m at e)))
-  unfolding listedOf
-  prefix-found {p} {s} {n} h q = rw (h, listed-place m p s n) (ap bare q)
+-- what is left from the k-th on begins with the k-th
+first-left : {A : Type 0} (l r : List A) (k : ℕ) (x d : A) → drop k l ≡ x ∷ r → (k < length l) × (getD l k d ≡ x) × (drop (k + 1) l ≡ r)
+first-left l r k x d h =
+    let z : length (drop k l) ≡ suc (length r) = ap length h in
+    let w : k < length l = omega (arith, length-drop k l) in
+    let e = drop-cons l k d w in
+    (w, cc, rw add-one (cc))
 
-  pub prefix-none : {f : Found} → f ≡ nth 26 k (areaOf m at e) → f ≡ Nothing → listedOf x [] ≡ listedAt [] Nothing → listedOf x [] ≡ bare (listedAt m (nth 26 k (areaOf m at e)))
-  unfolding listedAt
-  prefix-none h f q = rw (← h, f) q
+module _ (m : List ℕ) (s n : ℕ) where
+  -- the IA Prefixes from a place on, and all of them
+  abbrev from : ℕ → List Found
+  from p = options 26 (areaOf m p (s + n))
 
--- prefixes in an array: those that stand there, and those still to come, are all of them
-module _ (xs : List Listed) where
-  pub record Filled (ps : List IaPrefix) (k : ℕ) : Type 0 where
+  abbrev every : List Found
+  every = from (s + 12)
+
+  -- k of them stand in the array, and with those still to come they are all
+  pub record Filled (ps : List IaPrefix) (k p : ℕ) : Type 0 where
     pub size : length ps ≡ 5
-    pub few : k ≤ length xs
-    pub whole : firstListed k ps ++ map bare (drop k xs) ≡ map bare xs
+    pub few : k ≤ length every
+    pub left : drop k every ≡ from p
+    pub whole : firstListed k ps ++ map bare (map (listedAt m) (from p)) ≡ map bare (map (listedAt m) every)
 
-  fill-turn : (ps : List IaPrefix) (k : ℕ) (x : IaPrefix) (d : Listed) → k < length xs → k < 5 → listedOf x [] ≡ bare (getD xs k d) → Filled ps k → Filled (set ps k x) (k + 1)
-  fill-turn ps k x d h l q f =
-      let o : k < length ps = omega arith in
-      let t : firstListed k ps ++ (listedOf x [] ∷ map bare (drop (suc k) xs)) ≡ map bare xs = rw q (rw (drop-cons xs k d h) at (f .whole)) in
-      record { size = length-set ps k x ∙ f .size; few = omega arith; whole = rw (add-one, take-suc-set ps k x o, map-append, append-assoc) t }
+  module _ {ps : List IaPrefix} {k p : ℕ} (f : Filled ps k p) where
+    module _ {c t l x : ℕ} (h : Stepped m p (s + n) c t l x) where
+      pub filled-past : (c ≡ 26 → ⊥) → Filled ps k x
+      filled-past q = let e = options-past 26 h q in record { size = f .size; few = f .few; left = f .left ∙ e; whole = rw e at (f .whole) }
 
-  pub fill-end : (ps : List IaPrefix) (k n : ℕ) → n ≤ k → n ≡ length xs → Filled ps k → firstListed n ps ≡ map bare xs
-  fill-end ps k n h q f =
-      let e : k ≡ n = omega arith in
-      let l : length xs ≤ n = omega arith in
-      sym (append-nil (firstListed n ps)) ∙ (rw (e, drop-of-length-le xs l) at (f .whole))
+      module _ (q : c ≡ 26) where
+        next : (k < length every) × (nth 26 k (areaOf m (s + 12) (s + n)) ≡ At p t l) × (drop (k + 1) every ≡ from x)
+        next = first-left every (from x) k (At p t l) Nothing (f .left ∙ options-here 26 h q)
 
-pub prefix-turn : (m : List ℕ) (s n : ℕ) (ps : List IaPrefix) (k : ℕ) (x : IaPrefix) → k < length (iaAt m (At 0 s n) .listed) → k < 5
-    → listedOf x [] ≡ bare (listedAt m (nth 26 k (areaOf m (s + 12) (s + n)))) → Filled (iaAt m (At 0 s n) .listed) ps k → Filled (iaAt m (At 0 s n) .listed) (set ps k x) (k + 1)
-unfolding iaAt
-prefix-turn m s n ps k x h l q =
-    let fs = options 26 (areaOf m (s + 12) (s + n)) in
-    fill-turn (map (listedAt m) fs) ps k x (listedAt m Nothing) h l (rw (List·getD-map (listedAt m) fs k Nothing) q)
+        pub filled-formed : PdFormed m s n → PrefixFormed m t l
+        filled-formed g = formed-prefix m s n g k (next .1)
+
+        pub filled-fits : length (iaAt m (At 0 s n) .listed) ≤ 5 → k < 5
+        unfolding iaAt
+        filled-fits g = omega (arith, next .0, length-map every (listedAt m))
+
+        pub filled-next : (y : IaPrefix) → k < 5 → listedOf y (listedAt m (At 0 t l) .statuses) ≡ listedAt m (At 0 t l) → Filled (set ps k y) (k + 1) x
+        unfolding listedOf
+        filled-next y g r =
+            let o : k < length ps = omega (arith, f .size) in
+            let b : listedOf y [] ≡ bare (listedAt m (At p t l)) = rw (listed-place m p t l) (ap bare r) in
+            let w : firstListed k ps ++ (listedOf y [] ∷ map bare (map (listedAt m) (from x))) ≡ map bare (map (listedAt m) every) = rw b (rw (options-here 26 h q) at (f .whole)) in
+            record {
+              size = length-set ps k y ∙ f .size;
+              few = omega (arith, next .0);
+              left = next .2;
+              whole = rw (add-one, take-suc-set ps k y o, map-append, append-assoc) w;
+            }
+
+    pub filled-end : Stopped m p (s + n) → (firstListed k ps ≡ map bare (iaAt m (At 0 s n) .listed)) × (k ≡ length (iaAt m (At 0 s n) .listed))
+    unfolding iaAt
+    filled-end h =
+        let e = h .none 26 in
+        let z : length (drop k every) ≡ 0 = ap length (f .left ∙ e) in
+        (sym (append-nil (firstListed k ps)) ∙ (rw e at (f .whole)), omega (arith, f .few, length-drop k every, length-map every (listedAt m)))
 
 -- the whole IA_PD
 pub pd-read : (m : List ℕ) (s n : ℕ) (d : Pd) → d .iaid ≡ numAt m s 4 → d .t1 ≡ numAt m (s + 4) 4 → d .t2 ≡ numAt m (s + 8) 4 → d .says ≡ false

@@ -2,16 +2,15 @@
 ghost use mathlib.Core.Path.{_≡_};
 ghost use mathlib.Core.Bool.{true, false};
 ghost use Prim.Native.Nat.{_+_, _≤_, _<_};
-ghost use mathlib.Core.List.{[], map};
+ghost use mathlib.Core.List.{map};
 ghost use lib.ListN.{length};
 ghost use Rattle.rules.specs.Words.{part, sameBytes};
-ghost use Rattle.rules.specs.Options.{areaOf, nth};
-ghost use Rattle.rules.specs.Message.{iaAt, listedAt, read, wellFormed};
+ghost use Rattle.rules.specs.Message.{iaAt, read, wellFormed};
 ghost use Rattle.rules.specs.Identity.{kindOf, rowHolds};
 ghost use Rattle.rules.specs.Box.{iaOf as askedIa, wrongPds};
-ghost use Rattle.rules.specs.declared.Found.the-variants.{At, Nothing};
+ghost use Rattle.rules.specs.declared.Found.the-variants.{At};
 ghost use Rattle.laws.specs.Formed.{PdFormed};
-ghost use Rattle.values.specs.Values.{listedOf, firstListed, iaOf};
+ghost use Rattle.values.specs.Values.{firstListed, iaOf};
 ghost use Rattle.notes.specs.Noted.{IsNote, Noted};
 ghost use Rattle.heard.specs.Heard.{onlyOf, bare, bareIa};
 ghost use Rattle.heard.specs.Ids.{idWanted, idGood, idsHold};
@@ -19,12 +18,14 @@ use notes::Note;
 use notes::Notes;
 use rules::Found;
 use rules::Kind;
+use rules::Step;
 use values::IaPrefix;
 use values::Pd;
 use wire::content::prefix_at;
 use wire::content::u32_at;
 use wire::find::count_of;
 use wire::find::find;
+use wire::walk::step_at;
 use wire::walk::u8_at;
 
 // The identity rows, by message type: must one Client ID stand, must one Server ID.
@@ -73,10 +74,14 @@ pub fn listed_in(msg: &[u8], start: usize, len: usize) -> usize
     count_of(msg, start + 12, start + len, 26)
 }
 
+// The first `count` of five IA Prefixes.
+struct Prefixes {
+    count: usize,
+    prefixes: [IaPrefix; 5],
+}
+
 // What stands in the places past the last IA Prefix.
-fn no_prefix() -> IaPrefix
-    ensures { λ r. ⌜ listedOf r [] ≡ listedAt [] Nothing ⌝ }
-{
+fn no_prefix() -> IaPrefix {
     IaPrefix {
         preferred: 0,
         valid: 0,
@@ -87,34 +92,37 @@ fn no_prefix() -> IaPrefix
     }
 }
 
-// The k-th IA Prefix of an IA_PD.
-fn prefix_in(msg: &[u8], start: usize, len: usize, k: usize) -> IaPrefix
-    requires { ⌜ PdFormed (now msg) start len ⌝ }
-    ensures { λ r. ⌜ listedOf r [] ≡ bare (listedAt (now (msg .entry)) (nth 26 k (areaOf (now (msg .entry)) (start + 12) (start + len)))) ⌝ }
-{
-    match find(msg, start + 12, start + len, 26, k) {
-        Found::At {
-            place: _,
-            start,
-            len,
-        } => prefix_at(msg, start, len),
-        Found::Nothing => no_prefix(),
-    }
-}
-
-// The IA Prefixes of an IA_PD, of which there are n.
-fn prefixes_in(msg: &[u8], start: usize, len: usize, n: usize) -> [IaPrefix; 5]
-    requires { ⌜ PdFormed (now msg) start len × (n ≤ 5) × (n ≡ length (iaAt (now msg) (At 0 start len) .listed)) ⌝ }
-    ensures { λ r. ⌜ firstListed n r ≡ map bare (iaAt (now (msg .entry)) (At 0 start len) .listed) ⌝ }
+// The IA Prefixes of an IA_PD that lists at most five, read in one walk.
+fn prefixes_in(msg: &[u8], start: usize, len: usize) -> Prefixes
+    requires { ⌜ PdFormed (now msg) start len × (length (iaAt (now msg) (At 0 start len) .listed) ≤ 5) ⌝ }
+    ensures { λ r. ⌜ (firstListed (r .count) (r .prefixes) ≡ map bare (iaAt (now (msg .entry)) (At 0 start len) .listed)) × (r .count ≡ length (iaAt (now (msg .entry)) (At 0 start len) .listed)) ⌝ }
 {
     let none = no_prefix();
-    let mut ps = [none; 5];
-    let mut k = 0;
-    while k < n {
-        ps[k] = prefix_in(msg, start, len, k);
-        k += 1;
+    let mut prefixes = [none; 5];
+    let mut count = 0;
+    let mut p = start + 12;
+    loop {
+        match step_at(msg, p, start + len) {
+            Step::Opt {
+                code,
+                start: s,
+                len: n,
+                next,
+            } => {
+                if code == 26 {
+                    prefixes[count] = prefix_at(msg, s, n);
+                    count += 1;
+                }
+                p = next;
+            }
+            Step::End => {
+                return Prefixes { count, prefixes };
+            }
+            Step::Bad(_) => {
+                return Prefixes { count, prefixes };
+            }
+        }
     }
-    ps
 }
 
 // The IA_PD with that content: its numbers and its prefixes, without Status Codes.
@@ -122,8 +130,9 @@ pub fn pd_at(msg: &[u8], start: usize, len: usize) -> Pd
     requires { ⌜ PdFormed (now msg) start len × (length (iaAt (now msg) (At 0 start len) .listed) ≤ 5) ⌝ }
     ensures { λ r. ⌜ (iaOf r ≡ bareIa (iaAt (now (msg .entry)) (At 0 start len))) × (r .count ≡ length (iaAt (now (msg .entry)) (At 0 start len) .listed)) ⌝ }
 {
-    let count = listed_in(msg, start, len);
-    let prefixes = prefixes_in(msg, start, len, count);
+    let listed = prefixes_in(msg, start, len);
+    let count = listed.count;
+    let prefixes = listed.prefixes;
     let iaid = u32_at(msg, start);
     let t1 = u32_at(msg, start + 4);
     let t2 = u32_at(msg, start + 8);

@@ -29,6 +29,7 @@ use Rattle.values.specs.Values.{iaOf}
 use Rattle.values.specs.declared.Pd.{Pd}
 use Rattle.wire.specs.Client.{clientStretch}
 use Rattle.notes.specs.Noted.{Noted, Heard}
+use Rattle.notes.specs.Facts.{is-noted}
 use Rattle.notes.specs.declared.Notes.{Notes}
 use Rattle.heard.specs.Heard.{bareIa}
 use Rattle.plan.specs.Plan.{askedOf}
@@ -86,10 +87,6 @@ module _ (m : List ℕ) where
       pub form-0 : not x ≡ false → 0 ≡ byForm m
       unfolding byForm
       form-0 f = rw (h, kind g, unmet w f)
-
-  -- by the notes
-  pub formed-is : (s : Notes) → Heard m s → wrongSize m ≡ false → s .formed ≡ wellFormed m
-  formed-is s h g = h .formed ∙ rw g
 
 -- ---------------------------------------------------------------- 6, 7
 
@@ -208,7 +205,7 @@ module _ (b m : List ℕ) (now room : ℕ) where
           form-passed = none-applies fs refl f fz
 
           pub noted : (s : Notes) → Heard m s → Noted m s
-          noted s h = h .noted (formed-is m s h (form-passed .0) ∙ not-false _ (form-passed .1 .1 .0))
+          noted s h = is-noted m s h (form-passed .0) (not-false _ (form-passed .1 .1 .0))
 
           after-form : judged b now m room ≡ number (is ++ ss)
           unfolding byForm

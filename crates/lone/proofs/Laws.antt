@@ -24,6 +24,8 @@ use Rattle.rules.specs.declared.Checked.the-variants.{Good}
 use Rattle.laws.specs.Tests.{both, neither}
 use Rattle.laws.specs.Told.{is-good}
 use Rattle.values.specs.Values.{exceptOf}
+use Rattle.notes.specs.Noted.{IsNote}
+use Rattle.notes.specs.declared.Note.{Note}
 use Rattle.lone.specs.Answers.{loneRefusal, PdHead, pdHead}
 
 -- ---------------------------------------------------------------- refused or given
@@ -105,8 +107,7 @@ module _ (m : List ℕ) {s : Bool} (q : s ≡ wrongSize m) where
   unfolding readMessage
   message-read h w b e = rw (← q, h, ← w, b, e)
 
-pub summed : (m : List ℕ) {k x c s p : ℕ} {cf sf pf : Found} → k ≡ getD m 0 0 → x ≡ numAt m 1 3 → c ≡ count 1 (areaOf m 4 (length m)) → cf ≡ nth 1 0 (areaOf m 4 (length m))
-    → s ≡ count 2 (areaOf m 4 (length m)) → sf ≡ nth 2 0 (areaOf m 4 (length m)) → p ≡ count 25 (areaOf m 4 (length m)) → pf ≡ nth 25 0 (areaOf m 4 (length m))
-    → _≡_ {A = Summary} (record { kind = k; number = x; clients = c; client = cf; servers = s; server = sf; pds = p; pd = pf }) (summary m)
-unfolding summary top
-summed m a b c d e f g h = simp (a, b, c, d, e, f, g, h)
+pub summed : (m : List ℕ) {k x : ℕ} {c s p : Note} → k ≡ getD m 0 0 → x ≡ numAt m 1 3 → IsNote 1 m c → IsNote 2 m s → IsNote 25 m p
+    → _≡_ {A = Summary} (record { kind = k; number = x; clients = c .count; client = c .first; servers = s .count; server = s .first; pds = p .count; pd = p .first }) (summary m)
+unfolding summary
+summed m a b c s p = simp (a, b, c .counts, c .begins, s .counts, s .begins, p .counts, p .begins)

@@ -217,18 +217,24 @@ pub fn read_message(text: &[u8]) -> MessageRead
     if wrong_size(text) {
         return MessageRead::Refused(3);
     }
-    if !wire::check::well_formed(text) {
+    let s = notes::notes_of(text);
+    if !s.formed {
         return MessageRead::Refused(5);
     }
-    let end = text.len();
+    let c = s.client;
+    let client = c.first;
+    let v = s.server;
+    let server = v.first;
+    let d = s.pd;
+    let pd = d.first;
     MessageRead::Message {
         kind: u8_at(text, 0),
         number: cells::get(text, 1, 3) as u32,
-        clients: wire::find::count_of(text, 4, end, 1),
-        client: wire::find::find(text, 4, end, 1, 0),
-        servers: wire::find::count_of(text, 4, end, 2),
-        server: wire::find::find(text, 4, end, 2, 0),
-        pds: wire::find::count_of(text, 4, end, 25),
-        pd: wire::find::find(text, 4, end, 25, 0),
+        clients: c.count,
+        client,
+        servers: v.count,
+        server,
+        pds: d.count,
+        pd,
     }
 }

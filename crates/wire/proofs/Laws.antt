@@ -1,7 +1,7 @@
 -- Laws that only these proofs need.
-use mathlib.Core.Path.{_≡_, sym, ap, _∙_, subst}
+use mathlib.Core.Path.{_≡_, refl, sym, ap, _∙_, subst}
 use mathlib.Core.List.{List, [], map}
-use mathlib.Core.Bool.{Bool, true, _&&_}
+use mathlib.Core.Bool.{Bool, true, false, _&&_}
 use Prim.Native.Nat.{ℕ, _+_, _-_, _*_, _^_, _≤_, _<_}
 use native.Mathlib.Omega.{arith}
 use native.Mathlib.Nat.{add-sub-cancel-left}
@@ -10,24 +10,22 @@ use lib.Dec.{eqb, ltb}
 use lib.ListN.{length, getD, take, drop}
 use Rattle.rules.specs.Words.{any, part, num, be, numAt, u16At}
 use Rattle.rules.specs.Prefix.{prefix, contentOk, unpacked}
-use Rattle.rules.specs.Options.{excludeOk, own, areaOf, options, count, nth, content}
+use Rattle.rules.specs.Options.{inAny, excludeOk, own, areaOf, options, count, nth, content}
 use Rattle.rules.specs.Message.{asks67, statusAt, exceptAt, listedAt, top, read}
 use Rattle.rules.specs.declared.Level.{Level}
 use Rattle.rules.specs.declared.Level.the-variants.{Top, InPd, InPrefix}
 use Rattle.rules.specs.declared.Checked.{Checked}
+use Rattle.rules.specs.declared.Checked.the-variants.{Good}
 use Rattle.rules.specs.declared.Found.{Found}
 use Rattle.rules.specs.declared.Found.the-variants.{At}
-use Rattle.laws.specs.Tests.{both}
+use Rattle.laws.specs.Tests.{both, false-true}
 use Rattle.laws.specs.Parts.{part-cons}
 use Rattle.laws.specs.Numbers.{Bytes, bytes-part, num-lt, numAt-is}
-use Rattle.laws.specs.Steps.{any-map}
 use Rattle.laws.specs.Exclude as exclude
 use Rattle.wire.specs.Client.{clientStretch}
-use Rattle.wire.specs.Says.{codeOf, saying}
+use Rattle.wire.specs.Judged.{isJudged}
 use Rattle.values.specs.Values.{exceptOf, leaseOf, listedOf}
 use Rattle.values.specs.declared.IaPrefix.{IaPrefix}
-use Rattle.wire.specs.declared.says.Sought.{Sought}
-use Rattle.wire.specs.declared.says.Sought.the-variants.{Asking, Status}
 
 -- the Client ID of a message, by how many there are and where the first is
 module _ (m : List ℕ) where
@@ -48,23 +46,30 @@ pub two-bytes : (m : List ℕ) (at : ℕ) → Bytes m → at + 2 ≤ length m �
 unfolding num part
 two-bytes m at b h = numAt-is m at 2 b h ∙ rw (part-cons at 1 m 0 (omega arith), part-cons (at + 1) 0 m 0 (omega arith)) (omega arith)
 
--- what an option says does not depend on its place
-pub any-place : (t : Sought) (m : List ℕ) (p c s n : ℕ) {r : Bool} → r ≡ eqb c (codeOf t) && saying t m (At 0 s n) → r ≡ eqb c (codeOf t) && saying t m (At p s n)
-any-place Asking m p c s n e = e
-any-place (Status k) m p c s n e = e
-
-pub says-asked : (m : List ℕ) {r : Bool} → r ≡ any (saying Asking m) (options 6 (areaOf m 4 (length m))) → r ≡ read m .asks
-unfolding read top
-says-asked m e = e ∙ sym (any-map asks67 (content m) (options 6 (areaOf m 4 (length m))))
-
-pub says-status : (m : List ℕ) (at e k : ℕ) {r : Bool} → r ≡ any (saying (Status k) m) (options 13 (areaOf m at e)) → r ≡ any (eqb k) (map (statusAt m) (options 13 (areaOf m at e)))
-says-status m at e k q = q ∙ sym (any-map (eqb k) (statusAt m) (options 13 (areaOf m at e)))
-
 -- how deep areas can lie in one at a level
 abbrev pub rank : Level → ℕ
 rank Top = 2
 rank InPd = 1
 rank (InPrefix a) = 0
+
+-- an option that isn't judged is good, and no PD Exclude
+unjudged : (c w : ℕ) → isJudged w ≡ true → isJudged c ≡ false → c ≡ w → ⊥
+unjudged c w h g e = false-true (sym g ∙ rw e h)
+
+module _ (c : ℕ) (h : isJudged c ≡ false) where
+  pub not-exclude : c ≡ 67 → ⊥
+  unfolding isJudged
+  not-exclude = unjudged c 67 refl h
+
+  any-good : (p n : ℕ) → inAny p c n ≡ Good
+  unfolding isJudged
+  any-good p n = rw (ne-eqb c 13 (unjudged c 13 refl h))
+
+  pub other-good : (l : Level) (m : List ℕ) (k p s n : ℕ) → own l m k p c s n ≡ Good
+  unfolding own isJudged
+  other-good Top m k p s n = rw (ne-eqb c 25 (unjudged c 25 refl h), ne-eqb c 6 (unjudged c 6 refl h)) (any-good p n)
+  other-good InPd m k p s n = rw (ne-eqb c 26 (unjudged c 26 refl h)) (any-good p n)
+  other-good (InPrefix a) m k p s n = rw (ne-eqb c 67 (unjudged c 67 refl h)) (any-good p n)
 
 pub own-is : (m : List ℕ) (k p c s n : ℕ) {l l′ : Level} {r : Checked} → l ≡ l′ → r ≡ own l′ m k p c s n → r ≡ own l m k p c s n
 own-is m k p c s n e q = q ∙ sym (ap (λ (l : Level). own l m k p c s n) e)

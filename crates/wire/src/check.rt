@@ -4,6 +4,7 @@ ghost use Prim.Native.Nat.{_+_, _≤_};
 ghost use lib.ListN.{length};
 ghost use Rattle.rules.specs.Options.{wants, inAny, excludeOk, inPrefix, inPd, inTop, own, check};
 ghost use Rattle.rules.specs.Message.{wellFormed};
+ghost use Rattle.wire.specs.Judged.{isJudged};
 use crate::walk::step_at;
 use crate::walk::u8_at;
 use rules::Checked;
@@ -117,6 +118,13 @@ pub fn check_one(
     }
 }
 
+// Whether options of that code are judged at any level: all others are good.
+fn is_judged(code: usize) -> bool
+    ensures { λ r. ⌜ r ≡ isJudged code ⌝ }
+{
+    (code == 6) | (code == 13) | (code == 25) | (code == 26) | (code == 67)
+}
+
 // The first bad place of an area at a level.
 pub fn check_area(msg: &[u8], l: Level, at: usize, end: usize) -> Checked
     requires { ⌜ end ≤ length (now msg) ⌝ }
@@ -132,11 +140,13 @@ pub fn check_area(msg: &[u8], l: Level, at: usize, end: usize) -> Checked
                 len,
                 next,
             } => {
-                if let Checked::Broken(q) = check_one(msg, l, seen, p, code, start, len) {
-                    return Checked::Broken(q);
-                }
-                if code == 67 {
-                    seen += 1;
+                if is_judged(code) {
+                    if let Checked::Broken(q) = check_one(msg, l, seen, p, code, start, len) {
+                        return Checked::Broken(q);
+                    }
+                    if code == 67 {
+                        seen += 1;
+                    }
                 }
                 p = next;
             }

@@ -6,9 +6,6 @@ use Rattle.heard.proofs.Laws.{pd-read}
 use Rattle.heard.proofs.pd_at.Statement.{statement}
 use Rattle.heard.proofs.pd_at.Tie as tie
 
-listed-in-requires : tie.Need-listed-in-requires
-listed-in-requires c κs = search needs
-
 prefixes-in-requires : tie.Need-prefixes-in-requires
 prefixes-in-requires c κs = search needs
 
@@ -28,14 +25,13 @@ u32-at-requires-3 : tie.Need-u32-at-requires-3
 u32-at-requires-3 c κs = search needs
 
 returns : tie.Need-returns
-returns c = let a = c .before .before .before .before .before .before .args in
-    (pd-read (now (a .msg)) (a .start) (a .len) _ (c .before .before .u32-at .ensures) (c .before .u32-at2 .ensures) (c .u32-at3 .ensures) refl (c .before .before .before .prefixes-in .ensures), c .before .before .before .before .listed-in .ensures)
+returns c = let a = c .before .before .before .before .before .before .args in let p = c .before .before .before .before .prefixes-in .ensures in
+    (pd-read (now (a .msg)) (a .start) (a .len) _ (c .before .before .u32-at .ensures) (c .before .u32-at2 .ensures) (c .u32-at3 .ensures) refl (p .0), p .1)
 
 pub pd-at-spec : {M : Type 1} → statement M
 pd-at-spec =
     tie.close
     (tie.spec
-    listed-in-requires
     prefixes-in-requires
     u32-at-requires
     add-u32-at

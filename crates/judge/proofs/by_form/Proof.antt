@@ -1,7 +1,8 @@
 -- Each test in turn.
 use borrow.Author.Needs.{needs}
 use lib.Dec.{lit<}
-use Rattle.judge.proofs.Laws.{form-3, form-4, form-5, form-0, formed-is}
+use Rattle.notes.specs.Facts.{formed-is}
+use Rattle.judge.proofs.Laws.{form-3, form-4, form-5, form-0}
 use Rattle.judge.proofs.by_form.Statement.{statement}
 use Rattle.judge.proofs.by_form.Tie as tie
 

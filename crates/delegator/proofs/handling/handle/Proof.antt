@@ -2,7 +2,7 @@
 use mathlib.Core.Path.{refl, _∙_}
 use borrow.Author.Needs.{needs}
 use native.Mathlib.Omega.{arith}
-use Rattle.delegator.proofs.Handle.{refused, is-sound, is-accepted, is-ready, is-noted, is-handled}
+use Rattle.delegator.proofs.Handle.{refused, is-sound, is-accepted, is-ready, has-notes, is-handled}
 use Rattle.delegator.proofs.handling.handle.Statement.{statement}
 use Rattle.delegator.proofs.handling.handle.Tie as tie
 
@@ -25,7 +25,7 @@ tidy-requires : tie.Need-tidy-requires
 tidy-requires c κs = is-sound _ _ _ _ (c .before .before .judge .ensures .0) (c .before .if1 .left)
 
 serve-requires : tie.Need-serve-requires
-serve-requires c κs = (is-ready _ _ _ _ (c .before .before .before .before .before .before .before .judge .ensures .0) (c .before .before .before .before .before .before .if1 .left) (c .before .before .before .before .tidy .ensures), omega (arith, is-accepted _ _ _ _ (c .before .before .before .before .before .before .before .judge .ensures .0) (c .before .before .before .before .before .before .if1 .left) .roomy), is-noted _ _ _ _ (c .before .before .before .before .before .before .before .judge .ensures .0) (c .before .before .before .before .before .before .if1 .left) (c .before .before .before .before .tidy .ensures) _ (c .before .before .before .before .before .before .before .before .before .notes-of .ensures))
+serve-requires c κs = (is-ready _ _ _ _ (c .before .before .before .before .before .before .before .judge .ensures .0) (c .before .before .before .before .before .before .if1 .left) (c .before .before .before .before .tidy .ensures), omega (arith, is-accepted _ _ _ _ (c .before .before .before .before .before .before .before .judge .ensures .0) (c .before .before .before .before .before .before .if1 .left) .roomy), has-notes _ _ _ _ (c .before .before .before .before .before .before .before .judge .ensures .0) (c .before .before .before .before .before .before .if1 .left) (c .before .before .before .before .tidy .ensures) _ (c .before .before .before .before .before .before .before .before .before .notes-of .ensures))
 
 same-length-2 : tie.Need-same-length-2
 same-length-2 c = search needs

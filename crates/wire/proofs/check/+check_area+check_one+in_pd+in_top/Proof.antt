@@ -8,7 +8,7 @@ use borrow.Author.Tests.{eq-eqb, le-leb, lt-leb, ne-eqb}
 use Rattle.rules.specs.Options.{areaOf, check, checkPd, checkPrefix, own, scan}
 use Rattle.laws.specs.Steps.{Stepped, scan-broken, scan-past, scan-seen, stepped}
 use Rattle.laws.specs.Walk.{scan-bad, scan-end}
-use Rattle.wire.proofs.Laws.{own-is, rank}
+use Rattle.wire.proofs.Laws.{not-exclude, other-good, own-is, rank}
 use borrow.Fn.Kinds.{In}
 use borrow.Fn.PlainCycle.{Measures, is, falls, and}
 use Rattle.wire.proofs.check.check_area.Reads as check-area
@@ -25,6 +25,7 @@ use Rattle.wire.proofs.check.in_top.Kinds as in-top-kinds
 use Rattle.wire.proofs.check.+check_area+check_one+in_pd+in_top.Lts-in_top as in-top-lts
 use Rattle.wire.proofs.check.good_if.Reads as good-if-reads
 use Rattle.wire.proofs.check.in_any.Reads as in-any-reads
+use Rattle.wire.proofs.check.is_judged.Reads as is-judged-reads
 use Rattle.wire.proofs.check.in_prefix.Reads as in-prefix-reads
 use Rattle.wire.proofs.walk.step_at.Reads as step-at-reads
 use Rattle.wire.proofs.walk.u8_at.Reads as u8-at-reads
@@ -77,7 +78,7 @@ abbrev check-area-μ-loop : check-area-lts.MeasureT-loop
 check-area-μ-loop msg l at end p₀ seen₀ p seen = end - p
 
 abbrev check-area-claims : ℕ → check-area-lts.Claims
-check-area-claims t = (step-at-reads.Asked, step-at-reads.Learnt, check-one-below t, check-one.Post)
+check-area-claims t = (step-at-reads.Asked, step-at-reads.Learnt, is-judged-reads.Asked, is-judged-reads.Learnt, check-one-below t, check-one.Post)
 
 abbrev check-one-claims : ℕ → check-one-lts.Claims
 check-one-claims t = (in-top-below t, in-top.Post, in-pd-below t, in-pd.Post, in-prefix-reads.Asked, in-prefix-reads.Learnt)
@@ -102,33 +103,43 @@ check-area-step-at-requires t c κs = search needs
 check-area-enum-known-code : (t : ℕ) → check-area-lts.Need-enum-known-code (check-area-claims t) (check-area-at t) check-area.Post check-area-Inv-loop check-area-μ-loop
 check-area-enum-known-code t c = search needs
 
+check-area-is-judged-requires : (t : ℕ) → check-area-lts.Need-is-judged-requires (check-area-claims t) (check-area-at t) check-area.Post check-area-Inv-loop check-area-μ-loop
+check-area-is-judged-requires t c κs = search needs
+
 check-area-check-one-requires : (t : ℕ) → check-area-lts.Need-check-one-requires (check-area-claims t) (check-area-at t) check-area.Post check-area-Inv-loop check-area-μ-loop
-check-area-check-one-requires t c κs = (omega (arith, c .before .before .before .before .before .before .pre), omega (arith, found t (c .before), c .before .before .before .before .before .before .pre))
+check-area-check-one-requires t c κs = (omega (arith, c .before .before .before .before .before .before .before .before .pre), omega (arith, found t (c .before .before .before), c .before .before .before .before .before .before .before .before .pre))
 
 check-area-enum-known-q : (t : ℕ) → check-area-lts.Need-enum-known-q (check-area-claims t) (check-area-at t) check-area.Post check-area-Inv-loop check-area-μ-loop
 check-area-enum-known-q t c = search needs
 
 check-area-returns : (t : ℕ) → check-area-lts.Need-returns (check-area-claims t) (check-area-at t) check-area.Post check-area-Inv-loop check-area-μ-loop
 unfolding check
-check-area-returns t c = sym (c .before .before .before .before .before .before .before .before .loop .inv .1 ∙ scan-broken _ _ (found t (c .before .before .before .before .before)) (sym (c .before .before .before .check-one .ensures) ∙ c .before .q .given .1))
+check-area-returns t c = sym (c .before .before .before .before .before .before .before .before .before .before .loop .inv .1 ∙ scan-broken _ _ (found t (c .before .before .before .before .before .before .before)) (sym (c .before .before .before .check-one .ensures) ∙ c .before .q .given .1))
 
 check-area-enum-told : (t : ℕ) → check-area-lts.Need-enum-told (check-area-claims t) (check-area-at t) check-area.Post check-area-Inv-loop check-area-μ-loop
 check-area-enum-told t c = search needs
 
 check-area-add-seen : (t : ℕ) → check-area-lts.Need-add-seen (check-area-claims t) (check-area-at t) check-area.Post check-area-Inv-loop check-area-μ-loop
-check-area-add-seen t c = omega (arith, found t (c .before .before .before .before .before))
+check-area-add-seen t c = omega (arith, found t (c .before .before .before .before .before .before .before))
 
 check-area-loop-less : (t : ℕ) → check-area-lts.Need-loop-less (check-area-claims t) (check-area-at t) check-area.Post check-area-Inv-loop check-area-μ-loop
-check-area-loop-less t c = omega (arith, found t (c .before .before .before .before .before))
+check-area-loop-less t c = omega (arith, found t (c .before .before .before .before .before .before .before))
 
 check-area-loop-again : (t : ℕ) → check-area-lts.Need-loop-again (check-area-claims t) (check-area-at t) check-area.Post check-area-Inv-loop check-area-μ-loop
-check-area-loop-again t c = (omega (arith, found t (c .before .before .before .before .before)), c .before .before .before .before .before .before .before .before .loop .inv .1 ∙ scan-seen _ _ (found t (c .before .before .before .before .before)) (sym (c .before .before .before .check-one .ensures) ∙ c .before .enum-told .given .1) (c .if1 .taken))
+check-area-loop-again t c = (omega (arith, found t (c .before .before .before .before .before .before .before)), c .before .before .before .before .before .before .before .before .before .before .loop .inv .1 ∙ scan-seen _ _ (found t (c .before .before .before .before .before .before .before)) (sym (c .before .before .before .check-one .ensures) ∙ c .before .enum-told .given .1) (c .if2 .taken))
 
 check-area-loop-less-2 : (t : ℕ) → check-area-lts.Need-loop-less-2 (check-area-claims t) (check-area-at t) check-area.Post check-area-Inv-loop check-area-μ-loop
-check-area-loop-less-2 t c = omega (arith, found t (c .before .before .before .before .before))
+check-area-loop-less-2 t c = omega (arith, found t (c .before .before .before .before .before .before .before))
 
 check-area-loop-again-2 : (t : ℕ) → check-area-lts.Need-loop-again-2 (check-area-claims t) (check-area-at t) check-area.Post check-area-Inv-loop check-area-μ-loop
-check-area-loop-again-2 t c = (omega (arith, found t (c .before .before .before .before .before)), c .before .before .before .before .before .before .before .before .loop .inv .1 ∙ scan-past _ _ (found t (c .before .before .before .before .before)) (sym (c .before .before .before .check-one .ensures) ∙ c .before .enum-told .given .1) (c .if1 .left))
+check-area-loop-again-2 t c = (omega (arith, found t (c .before .before .before .before .before .before .before)), c .before .before .before .before .before .before .before .before .before .before .loop .inv .1 ∙ scan-past _ _ (found t (c .before .before .before .before .before .before .before)) (sym (c .before .before .before .check-one .ensures) ∙ c .before .enum-told .given .1) (c .if2 .left))
+
+check-area-loop-less-3 : (t : ℕ) → check-area-lts.Need-loop-less-3 (check-area-claims t) (check-area-at t) check-area.Post check-area-Inv-loop check-area-μ-loop
+check-area-loop-less-3 t c = omega (arith, found t (c .before .before .before))
+
+check-area-loop-again-3 : (t : ℕ) → check-area-lts.Need-loop-again-3 (check-area-claims t) (check-area-at t) check-area.Post check-area-Inv-loop check-area-μ-loop
+check-area-loop-again-3 t c = let h = sym (c .before .is-judged .ensures) ∙ c .if1 .left in
+    (omega (arith, found t (c .before .before .before)), c .before .before .before .before .before .before .loop .inv .1 ∙ scan-past _ _ (found t (c .before .before .before)) (other-good _ h _ _ _ _ _ _) (not-exclude _ h))
 
 check-area-enum-told-2 : (t : ℕ) → check-area-lts.Need-enum-told-2 (check-area-claims t) (check-area-at t) check-area.Post check-area-Inv-loop check-area-μ-loop
 check-area-enum-told-2 t c = search needs
@@ -243,6 +254,7 @@ pub +check-area+check-one+in-pd+in-top-spec : {M : Type 1} → statement M
     (check-area-loop-holds t)
     (check-area-step-at-requires t)
     (check-area-enum-known-code t)
+    (check-area-is-judged-requires t)
     (check-area-check-one-requires t)
     (check-area-enum-known-q t)
     (check-area-returns t)
@@ -252,6 +264,8 @@ pub +check-area+check-one+in-pd+in-top-spec : {M : Type 1} → statement M
     (check-area-loop-again t)
     (check-area-loop-less-2 t)
     (check-area-loop-again-2 t)
+    (check-area-loop-less-3 t)
+    (check-area-loop-again-3 t)
     (check-area-enum-told-2 t)
     (check-area-returns-2 t)
     (check-area-enum-known-q-2 t)
