@@ -6,7 +6,7 @@ use Prim.Native.Nat.{ℕ, zero, suc, _+_, _-_, _≤_, _<_}
 use native.Mathlib.Omega.{arith}
 use native.Mathlib.Nat.{add-sub-cancel-left}
 use native.Mathlib.Numerals.{add-one}
-use borrow.Author.Tests.{eq-eqb, ne-eqb, le-leb, lt-leb, ltb-true, ltb-false}
+use borrow.Author.Tests.{eq-eqb, ne-eqb, le-leb, lt-leb, lt-ltb, ltb-true, ltb-false}
 use lib.Dec.{eqb, leb, ltb}
 use lib.ListN.{length, getD, take, drop, set, length-set, length-map, length-drop, List·getD-eq-default}
 use lib.Seq.{take-suc-set, drop-cons, take-length}
@@ -18,7 +18,6 @@ use Rattle.rules.specs.Box.{iaOf as askedIa, wrongPds}
 use Rattle.rules.specs.declared.Kind.the-variants.{Release}
 use Rattle.rules.specs.declared.Found.{Found}
 use Rattle.rules.specs.declared.Found.the-variants.{At, Nothing}
-use Rattle.laws.specs.Walk.{options-end}
 use Rattle.laws.specs.Steps.{Stepped, Stopped, options-here, options-past}
 use Rattle.laws.specs.Parts.{length-part}
 use Rattle.laws.specs.Same.{other-length}
@@ -29,9 +28,9 @@ use Rattle.values.specs.declared.IaPrefix.{IaPrefix}
 use Rattle.values.specs.declared.Pd.{Pd}
 use Rattle.notes.specs.Noted.{IsNote}
 use Rattle.notes.specs.declared.Note.{Note}
-use Rattle.heard.specs.Heard.{onlyOf, bare, bareIa}
+use Rattle.heard.specs.Heard.{onlyOf, bare, bareIa, AskedPd}
 use Rattle.heard.specs.Ids.{idWanted, idGood, idsOf, idsHold}
-use Rattle.heard.specs.Facts.{only-at, only-nothing, PdAt, pd-stands}
+use Rattle.heard.specs.Facts.{only-at, only-nothing, pd-is}
 
 -- ---------------------------------------------------------------- the one option of a code
 
@@ -128,15 +127,6 @@ rows-hold own m {k} q e h =
 
 -- ---------------------------------------------------------------- the IA_PD
 
--- what it lists, as the options of the area inside
-module _ (m : List ℕ) (s n : ℕ) where
-  pub listed-count : {k : ℕ} → k ≡ count 26 (areaOf m (s + 12) (s + n)) → k ≡ length (iaAt m (At 0 s n) .listed)
-  unfolding iaAt
-  listed-count q = q ∙ sym (length-map (options 26 (areaOf m (s + 12) (s + n))) (listedAt m))
-
-  pub listed-none : n < 12 → 0 ≡ length (iaAt m (At 0 s n) .listed)
-  listed-none h = listed-count (sym (ap length (options-end 26 m (s + 12) (s + n) (rw (le-leb (s + n) (s + 12) (omega arith))))))
-
 more-than : (k n : ℕ) → ltb n k ≡ not (leb k n)
 more-than k n = by (ltb n k) refl
   where
@@ -144,9 +134,9 @@ more-than k n = by (ltb n k) refl
     by true e = rw (lt-leb k n (ltb-true n k e))
     by false e = rw (le-leb k n (ltb-false n k e))
 
-pub few-pds : (m : List ℕ) {p s n k : ℕ} → onlyOf 25 m ≡ At p s n → k ≡ length (iaAt m (At 0 s n) .listed) → ltb 4 k ≡ wrongPds (read m)
+pub few-pds : (m : List ℕ) {p s n : ℕ} → onlyOf 25 m ≡ At p s n → ltb 4 (length (iaAt m (At 0 s n) .listed)) ≡ wrongPds (read m)
 unfolding read
-few-pds m {p} {s} {n} {k} h q = rw (only-at 25 m h, ia-place m p s n, ← q) (more-than k 4)
+few-pds m {p} {s} {n} h = rw (only-at 25 m h, ia-place m p s n) (more-than (length (iaAt m (At 0 s n) .listed)) 4)
 
 pub other-pds : (m : List ℕ) → onlyOf 25 m ≡ Nothing → true ≡ wrongPds (read m)
 unfolding read
@@ -189,10 +179,6 @@ module _ (m : List ℕ) (s n : ℕ) where
         pub filled-formed : PdFormed m s n → PrefixFormed m t l
         filled-formed g = formed-prefix m s n g k (next .1)
 
-        pub filled-fits : length (iaAt m (At 0 s n) .listed) ≤ 5 → k < 5
-        unfolding iaAt
-        filled-fits g = omega (arith, next .0, length-map every (listedAt m))
-
         pub filled-next : (y : IaPrefix) → k < 5 → listedOf y (listedAt m (At 0 t l) .statuses) ≡ listedAt m (At 0 t l) → Filled (set ps k y) (k + 1) x
         unfolding listedOf
         filled-next y g r =
@@ -206,12 +192,22 @@ module _ (m : List ℕ) (s n : ℕ) where
               whole = rw (add-one, take-suc-set ps k y o, map-append, append-assoc) w;
             }
 
-    pub filled-end : Stopped m p (s + n) → (firstListed k ps ≡ map bare (iaAt m (At 0 s n) .listed)) × (k ≡ length (iaAt m (At 0 s n) .listed))
+    abbrev Read : Type 0
+    Read = (ltb 4 k ≡ ltb 4 (length (iaAt m (At 0 s n) .listed))) × (k ≤ 4 → firstListed k ps ≡ map bare (iaAt m (At 0 s n) .listed))
+
+    -- all were read, or five
+    pub filled-end : Stopped m p (s + n) → Read
     unfolding iaAt
     filled-end h =
         let e = h .none 26 in
         let z : length (drop k every) ≡ 0 = ap length (f .left ∙ e) in
-        (sym (append-nil (firstListed k ps)) ∙ (rw e at (f .whole)), omega (arith, f .few, length-drop k every, length-map every (listedAt m)))
+        let l : k ≡ length (map (listedAt m) every) = omega (arith, f .few, length-drop k every, length-map every (listedAt m)) in
+        (ap (ltb 4) l, λ _. sym (append-nil (firstListed k ps)) ∙ (rw e at (f .whole)))
+
+    pub filled-five : 5 ≤ k → Read
+    unfolding iaAt
+    filled-five h =
+        (lt-ltb 4 k (omega arith) ∙ sym (lt-ltb 4 (length (map (listedAt m) every)) (omega (arith, f .few, length-map every (listedAt m)))), λ g. absurd (omega arith))
 
 -- the whole IA_PD
 pub pd-read : (m : List ℕ) (s n : ℕ) (d : Pd) → d .iaid ≡ numAt m s 4 → d .t1 ≡ numAt m (s + 4) 4 → d .t2 ≡ numAt m (s + 8) 4 → d .says ≡ false
@@ -231,9 +227,5 @@ module _ (m : List ℕ) {k : ℕ} (e : k ≡ getD m 0 0) where
 
 -- ---------------------------------------------------------------- the IA_PD that is asked about
 
-pub pd-asked : (m : List ℕ) {s n : ℕ} (d : Pd) → PdAt m s n → (iaOf d ≡ bareIa (iaAt m (At 0 s n))) × (d .count ≡ length (iaAt m (At 0 s n) .listed))
-    → (iaOf d ≡ bareIa (askedIa (read m))) × (d .count ≤ 4)
-pd-asked m d g h = (h .0 ∙ ap bareIa (sym (g .is)), omega (arith, h .1, g .few))
-
-pub pd-there : (m : List ℕ) → wellFormed m ≡ true → wrongPds (read m) ≡ false → onlyOf 25 m ≡ Nothing → ⊥
-pd-there m g r h = let p = pd-stands m g r in let z : At (p .place) (p .start) (p .len) ≡ Nothing = sym (p .is) ∙ h in let y : _≡_ {A = ℕ} 0 1 = cc in omega arith
+pub pd-asked : (m : List ℕ) {p s n : ℕ} → onlyOf 25 m ≡ At p s n → (d : Pd) → (d .count ≤ 4 → iaOf d ≡ bareIa (iaAt m (At 0 s n))) → ltb 4 (d .count) ≡ false → AskedPd m d
+pd-asked m h d e f = let g = ltb-false 4 (d .count) f in record { is = e g ∙ ap bareIa (sym (pd-is m h)); few = g }

@@ -2,7 +2,7 @@
 --   only-at, -inside, -nothing   the one option of a code stands alone, inside the message; or there isn't exactly one
 --   Standing, standing           an option that isn't nothing stands somewhere
 --   ClientAt, client-            the one Client ID of a served message whose row holds
---   PdAt, pd-                    the one IA_PD of a well-formed message whose IA_PDs are not wrong
+--   pd-                          the one IA_PD
 use mathlib.Core.Path.{_≡_, refl, sym, ap, _∙_}
 use mathlib.Core.Bool.{Bool, true, false, cond}
 use mathlib.Core.List.{List, [], _∷_}
@@ -15,7 +15,7 @@ use Rattle.rules.specs.Words.{consIf, part}
 use Rattle.rules.specs.Options.{Area, over, stop, opt, options, count, nth, content}
 use Rattle.rules.specs.Message.{iaAt, top, read, wellFormed}
 use Rattle.rules.specs.Identity.{Duid, goodDuid, served, rowHolds}
-use Rattle.rules.specs.Box.{clientOf, iaOf, wrongPds}
+use Rattle.rules.specs.Box.{clientOf, iaOf}
 use Rattle.rules.specs.declared.Found.{Found}
 use Rattle.rules.specs.declared.Found.the-variants.{At, Nothing}
 use Rattle.laws.specs.Tests.{both}
@@ -109,28 +109,10 @@ module _ (own : Duid) (m : List ℕ) (kind : served (read m .kind) ≡ true) (ro
 
 -- ---------------------------------------------------------------- the IA_PD
 
-pub record PdAt (m : List ℕ) (s n : ℕ) : Type 0 where
-  pub formed : PdFormed m s n
-  pub is : iaOf (read m) ≡ iaAt m (At 0 s n)
-  pub few : length (iaAt m (At 0 s n) .listed) ≤ 4
+module _ (m : List ℕ) {p s n : ℕ} (h : onlyOf 25 m ≡ At p s n) where
+  pub pd-formed : wellFormed m ≡ true → PdFormed m s n
+  pd-formed good = formed-pd m good 0 (ap (λ l. getD l 0 Nothing) (only-at 25 m h))
 
-module _ (m : List ℕ) (good : wellFormed m ≡ true) (right : wrongPds (read m) ≡ false) where
-  one-pd : (length (read m .ias) ≡ 1) × (length (iaOf (read m) .listed) ≤ 4)
-  one-pd =
-      let k = both (eqb (length (read m .ias)) 1) (leb (length (iaOf (read m) .listed)) 4) (not-false _ right) in
-      (eqb-true _ 1 (k .0), leb-true _ 4 (k .1))
-
-  pub pd-at : {p s n : ℕ} → onlyOf 25 m ≡ At p s n → PdAt m s n
+  pub pd-is : iaOf (read m) ≡ iaAt m (At 0 s n)
   unfolding read
-  pd-at {p} {s} {n} h =
-      let l = only-at 25 m h in
-      let i : iaOf (read m) ≡ iaAt m (At 0 s n) = rw l (ia-place m p s n) in
-      record {
-        formed = formed-pd m good 0 (ap (λ l. getD l 0 Nothing) l);
-        is = i;
-        few = rw i at (one-pd .1);
-      }
-
-  pub pd-stands : Standing (onlyOf 25 m)
-  unfolding read
-  pd-stands = standing (onlyOf 25 m) (λ h. only-nothing 25 m h (sym (length-map (options 25 (top m)) (iaAt m)) ∙ one-pd .0))
+  pd-is = rw (only-at 25 m h) (ia-place m p s n)

@@ -3,16 +3,17 @@ ghost use mathlib.Core.Path.{_≡_};
 ghost use mathlib.Core.Bool.{true, false};
 ghost use Prim.Native.Nat.{_+_, _≤_, _<_};
 ghost use mathlib.Core.List.{map};
+ghost use lib.Dec.{ltb};
 ghost use lib.ListN.{length};
 ghost use Rattle.rules.specs.Words.{part, sameBytes};
 ghost use Rattle.rules.specs.Message.{iaAt, read, wellFormed};
 ghost use Rattle.rules.specs.Identity.{kindOf, rowHolds};
-ghost use Rattle.rules.specs.Box.{iaOf as askedIa, wrongPds};
+ghost use Rattle.rules.specs.Box.{wrongPds};
 ghost use Rattle.rules.specs.declared.Found.the-variants.{At};
 ghost use Rattle.laws.specs.Formed.{PdFormed};
 ghost use Rattle.values.specs.Values.{firstListed, iaOf};
 ghost use Rattle.notes.specs.Noted.{IsNote, Noted};
-ghost use Rattle.heard.specs.Heard.{onlyOf, bare, bareIa};
+ghost use Rattle.heard.specs.Heard.{onlyOf, bare, bareIa, AskedPd};
 ghost use Rattle.heard.specs.Ids.{idWanted, idGood, idsHold};
 use notes::Note;
 use notes::Notes;
@@ -27,6 +28,12 @@ use wire::find::count_of;
 use wire::find::find;
 use wire::walk::step_at;
 use wire::walk::u8_at;
+
+// The IA_PD of a message, unless its IA_PDs are wrong.
+pub struct Question {
+    pub wrong: bool,
+    pub pd: Pd,
+}
 
 // The identity rows, by message type: must one Client ID stand, must one Server ID.
 const ROWS: [[bool; 2]; 9] = [
@@ -63,17 +70,6 @@ pub fn only(msg: &[u8], code: usize) -> Found
     find(msg, 4, msg.len(), code, 0)
 }
 
-// How many IA Prefixes the IA_PD with that content lists.
-pub fn listed_in(msg: &[u8], start: usize, len: usize) -> usize
-    requires { ⌜ start + len ≤ length (now msg) ⌝ }
-    ensures { λ r. ⌜ r ≡ length (iaAt (now (msg .entry)) (At 0 start len) .listed) ⌝ }
-{
-    if len < 12 {
-        return 0;
-    }
-    count_of(msg, start + 12, start + len, 26)
-}
-
 // The first `count` of five IA Prefixes.
 struct Prefixes {
     count: usize,
@@ -92,16 +88,16 @@ fn no_prefix() -> IaPrefix {
     }
 }
 
-// The IA Prefixes of an IA_PD that lists at most five, read in one walk.
+// The IA Prefixes of an IA_PD, read in one walk: no more than five, for five are too many.
 fn prefixes_in(msg: &[u8], start: usize, len: usize) -> Prefixes
-    requires { ⌜ PdFormed (now msg) start len × (length (iaAt (now msg) (At 0 start len) .listed) ≤ 5) ⌝ }
-    ensures { λ r. ⌜ (firstListed (r .count) (r .prefixes) ≡ map bare (iaAt (now (msg .entry)) (At 0 start len) .listed)) × (r .count ≡ length (iaAt (now (msg .entry)) (At 0 start len) .listed)) ⌝ }
+    requires { ⌜ PdFormed (now msg) start len ⌝ }
+    ensures { λ r. ⌜ (ltb 4 (r .count) ≡ ltb 4 (length (iaAt (now (msg .entry)) (At 0 start len) .listed))) × (r .count ≤ 4 → firstListed (r .count) (r .prefixes) ≡ map bare (iaAt (now (msg .entry)) (At 0 start len) .listed)) ⌝ }
 {
     let none = no_prefix();
     let mut prefixes = [none; 5];
     let mut count = 0;
     let mut p = start + 12;
-    loop {
+    while count < 5 {
         match step_at(msg, p, start + len) {
             Step::Opt {
                 code,
@@ -123,12 +119,13 @@ fn prefixes_in(msg: &[u8], start: usize, len: usize) -> Prefixes
             }
         }
     }
+    Prefixes { count, prefixes }
 }
 
 // The IA_PD with that content: its numbers and its prefixes, without Status Codes.
-pub fn pd_at(msg: &[u8], start: usize, len: usize) -> Pd
-    requires { ⌜ PdFormed (now msg) start len × (length (iaAt (now msg) (At 0 start len) .listed) ≤ 5) ⌝ }
-    ensures { λ r. ⌜ (iaOf r ≡ bareIa (iaAt (now (msg .entry)) (At 0 start len))) × (r .count ≡ length (iaAt (now (msg .entry)) (At 0 start len) .listed)) ⌝ }
+fn pd_at(msg: &[u8], start: usize, len: usize) -> Pd
+    requires { ⌜ PdFormed (now msg) start len ⌝ }
+    ensures { λ r. ⌜ (ltb 4 (r .count) ≡ ltb 4 (length (iaAt (now (msg .entry)) (At 0 start len) .listed))) × (r .count ≤ 4 → iaOf r ≡ bareIa (iaAt (now (msg .entry)) (At 0 start len))) ⌝ }
 {
     let listed = prefixes_in(msg, start, len);
     let count = listed.count;
@@ -207,21 +204,6 @@ pub fn row_holds(msg: &[u8], own: &[u8], s: Notes) -> bool
     ids_hold(msg, own, kind, 0, s.client) & ids_hold(msg, own, kind, 1, s.server)
 }
 
-// Whether there isn't exactly one IA_PD, or it lists more than four IA Prefixes.
-pub fn wrong_pds(msg: &[u8], x: Note) -> bool
-    requires { ⌜ IsNote 25 (now msg) x ⌝ }
-    ensures { λ r. ⌜ r ≡ wrongPds (read (now (msg .entry))) ⌝ }
-{
-    match one(msg, x, 25) {
-        Found::At {
-            place: _,
-            start,
-            len,
-        } => 4 < listed_in(msg, start, len),
-        Found::Nothing => true,
-    }
-}
-
 // The kind of a message that the box serves.
 pub fn kind_of(msg: &[u8]) -> Kind
     ensures { λ r. ⌜ r ≡ kindOf (read (now (msg .entry)) .kind) ⌝ }
@@ -242,17 +224,40 @@ pub fn kind_of(msg: &[u8]) -> Kind
     Kind::Release
 }
 
-// The IA_PD that a message asks about.
-pub fn asked_pd(msg: &[u8], x: Note) -> Pd
-    requires { ⌜ (wellFormed (now msg) ≡ true) × (wrongPds (read (now msg)) ≡ false) × IsNote 25 (now msg) x ⌝ }
-    ensures { λ r. ⌜ (iaOf r ≡ bareIa (askedIa (read (now (msg .entry))))) × (r .count ≤ 4) ⌝ }
+// What stands for the IA_PD of a message that is wrong.
+pub fn no_pd() -> Pd {
+    let none = no_prefix();
+    Pd {
+        iaid: 0,
+        t1: 0,
+        t2: 0,
+        count: 0,
+        prefixes: [none; 5],
+        says: false,
+        status: 0,
+    }
+}
+
+// The IA_PD that a message asks about, or that its IA_PDs are wrong: there isn't exactly one, or it lists more than four prefixes.
+pub fn asked_pd(msg: &[u8], x: Note) -> Question
+    requires { ⌜ (wellFormed (now msg) ≡ true) × IsNote 25 (now msg) x ⌝ }
+    ensures { λ r. ⌜ (r .wrong ≡ wrongPds (read (now (msg .entry)))) × (r .wrong ≡ false → AskedPd (now (msg .entry)) (r .pd)) ⌝ }
 {
     match one(msg, x, 25) {
         Found::At {
             place: _,
             start,
             len,
-        } => pd_at(msg, start, len),
-        Found::Nothing => pd_at(msg, 0, 0),
+        } => {
+            let pd = pd_at(msg, start, len);
+            Question {
+                wrong: 4 < pd.count,
+                pd,
+            }
+        }
+        Found::Nothing => Question {
+            wrong: true,
+            pd: no_pd(),
+        },
     }
 }

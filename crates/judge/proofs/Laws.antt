@@ -204,8 +204,11 @@ module _ (b m : List ℕ) (now room : ℕ) where
           unfolding byForm
           form-passed = none-applies fs refl f fz
 
+          pub formed : wellFormed m ≡ true
+          formed = not-false _ (form-passed .1 .1 .0)
+
           pub noted : (s : Notes) → Heard m s → Noted m s
-          noted s h = is-noted m s h (form-passed .0) (not-false _ (form-passed .1 .1 .0))
+          noted s h = is-noted m s h (form-passed .0) formed
 
           after-form : judged b now m room ≡ number (is ++ ss)
           unfolding byForm

@@ -3,15 +3,21 @@ ghost use mathlib.Core.Path.{_≡_};
 ghost use Prim.Native.Nat.{_<_};
 ghost use mathlib.Core.Bool.{true};
 ghost use Rattle.rules.specs.Message.{read};
-ghost use Rattle.rules.specs.Identity.{kindOf};
 ghost use Rattle.rules.specs.TableBytes.{tableOf, soundBytes};
-ghost use Rattle.rules.specs.Box.{serving, isSilence};
-ghost use Rattle.rules.specs.declared.Kind.the-variants.{Rebind};
+ghost use Rattle.rules.specs.Box.{serving, wrongPds, isSilence};
 ghost use Rattle.notes.specs.Noted.{Heard, Noted};
+ghost use Rattle.heard.specs.Heard.{AskedPd};
 ghost use Rattle.judge.specs.Judged.{byTable, byForm, byIds, judged};
 ghost use Rattle.judge.specs.Understood.{Understood};
 use notes::Notes;
 use rules::Kind;
+use values::Pd;
+
+// The number of a refusal, or 0 and the IA_PD that a message asks about.
+pub struct Judgement {
+    pub refusal: u64,
+    pub pd: Pd,
+}
 
 // 9, 1: by the table, and the time.
 pub fn by_table(t: &[u8], time: u64) -> u64
@@ -46,64 +52,66 @@ fn by_form(msg: &[u8], s: Notes) -> u64
 }
 
 // 6, 7: by its IDs and IA_PDs.
-fn by_ids(t: &[u8], msg: &[u8], s: Notes) -> u64
-    requires { ⌜ (soundBytes (now t) ≡ true) × Noted (now msg) s ⌝ }
+fn by_ids(t: &[u8], msg: &[u8], s: Notes, wrong: bool) -> u64
+    requires { ⌜ (soundBytes (now t) ≡ true) × Noted (now msg) s × (wrong ≡ wrongPds (read (now msg))) ⌝ }
     ensures { λ r. ⌜ (r ≡ byIds (now (t .entry)) (now (msg .entry))) × (r < 10) ⌝ }
 {
     if !heard::row_holds(msg, sound::own_of(t), s) {
         return 6;
     }
-    if heard::wrong_pds(msg, s.pd) {
+    if wrong {
         return 7;
     }
     0
 }
 
-// Whether a Rebind is passed over.
-fn rebind_passed_over(t: &[u8], time: u64, msg: &[u8], s: Notes) -> bool
-    requires { ⌜ Understood (now t) (now msg) × Noted (now msg) s × (kindOf (read (now msg) .kind) ≡ Rebind) ⌝ }
-    ensures { λ r. ⌜ r ≡ isSilence (serving (tableOf (now (t .entry))) time (read (now (msg .entry))) .verdict) ⌝ }
-{
-    let q = heard::asked_pd(msg, s.pd);
-    decide::silent(t, time, notes::client_of(msg, s.client), q)
-}
-
 // 8: by what would be said. Only a Rebind is ever passed over.
-fn passed_over(t: &[u8], time: u64, msg: &[u8], s: Notes) -> bool
-    requires { ⌜ Understood (now t) (now msg) × Noted (now msg) s ⌝ }
+fn passed_over(t: &[u8], time: u64, msg: &[u8], s: Notes, q: Pd) -> bool
+    requires { ⌜ Understood (now t) (now msg) × Noted (now msg) s × AskedPd (now msg) q ⌝ }
     ensures { λ r. ⌜ r ≡ isSilence (serving (tableOf (now (t .entry))) time (read (now (msg .entry))) .verdict) ⌝ }
 {
     match heard::kind_of(msg) {
         Kind::Solicit => false,
         Kind::Request => false,
         Kind::Renew => false,
-        Kind::Rebind => rebind_passed_over(t, time, msg, s),
+        Kind::Rebind => decide::silent(t, time, notes::client_of(msg, s.client), q),
         Kind::Release => false,
     }
 }
 
-// The number of the first refusal that applies, or 0.
-pub fn judge(t: &[u8], time: u64, msg: &[u8], s: Notes, room: usize) -> u64
+fn refused(n: u64) -> Judgement
+    ensures { λ r. ⌜ r .refusal ≡ n ⌝ }
+{
+    Judgement {
+        refusal: n,
+        pd: heard::no_pd(),
+    }
+}
+
+// The number of the first refusal that applies, or 0 with the IA_PD that is asked about.
+pub fn judge(t: &[u8], time: u64, msg: &[u8], s: Notes, room: usize) -> Judgement
     requires { ⌜ Heard (now msg) s ⌝ }
-    ensures { λ r. ⌜ (r ≡ judged (now (t .entry)) time (now (msg .entry)) room) × (r < 10) ⌝ }
+    ensures { λ r. ⌜ (r .refusal ≡ judged (now (t .entry)) time (now (msg .entry)) room) × (r .refusal < 10) × (r .refusal ≡ 0 → AskedPd (now (msg .entry)) (r .pd)) ⌝ }
 {
     let a = by_table(t, time);
     if a != 0 {
-        return a;
+        return refused(a);
     }
     if room < 512 {
-        return 2;
+        return refused(2);
     }
     let b = by_form(msg, s);
     if b != 0 {
-        return b;
+        return refused(b);
     }
-    let c = by_ids(t, msg, s);
+    let q = heard::asked_pd(msg, s.pd);
+    let c = by_ids(t, msg, s, q.wrong);
     if c != 0 {
-        return c;
+        return refused(c);
     }
-    if passed_over(t, time, msg, s) {
-        return 8;
+    let pd = q.pd;
+    if passed_over(t, time, msg, s, pd) {
+        return refused(8);
     }
-    0
+    Judgement { refusal: 0, pd }
 }

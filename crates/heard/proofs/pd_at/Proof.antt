@@ -26,7 +26,7 @@ u32-at-requires-3 c κs = search needs
 
 returns : tie.Need-returns
 returns c = let a = c .before .before .before .before .before .before .args in let p = c .before .before .before .before .prefixes-in .ensures in
-    (pd-read (now (a .msg)) (a .start) (a .len) _ (c .before .before .u32-at .ensures) (c .before .u32-at2 .ensures) (c .u32-at3 .ensures) refl (p .0), p .1)
+    (p .0, λ h. pd-read (now (a .msg)) (a .start) (a .len) _ (c .before .before .u32-at .ensures) (c .before .u32-at2 .ensures) (c .u32-at3 .ensures) refl (p .1 h))
 
 pub pd-at-spec : {M : Type 1} → statement M
 pd-at-spec =

@@ -14,16 +14,13 @@ row-holds-requires c κs = search needs
 returns : tie.Need-returns
 returns c = (ids-6 _ _ (c .before .before .own-of .ensures) (c .before .row-holds .ensures) (c .if1 .taken), lit< tt)
 
-wrong-pds-requires : tie.Need-wrong-pds-requires
-wrong-pds-requires c κs = search needs
-
 returns-2 : tie.Need-returns-2
-returns-2 c = (ids-7 _ _ (c .before .before .before .before .own-of .ensures) (c .before .before .before .row-holds .ensures) (c .before .before .if1 .left) (c .before .wrong-pds .ensures) (c .if2 .taken), lit< tt)
+returns-2 c = (ids-7 _ _ (c .before .before .before .own-of .ensures) (c .before .before .row-holds .ensures) (c .before .if1 .left) (c .before .before .before .before .before .before .pre .2) (c .if2 .taken), lit< tt)
 
 returns-3 : tie.Need-returns-3
-returns-3 c = (ids-0 _ _ (c .before .before .before .before .own-of .ensures) (c .before .before .before .row-holds .ensures) (c .before .before .if1 .left) (c .before .wrong-pds .ensures) (c .if2 .left), lit< tt)
+returns-3 c = (ids-0 _ _ (c .before .before .before .own-of .ensures) (c .before .before .row-holds .ensures) (c .before .if1 .left) (c .before .before .before .before .before .before .pre .2) (c .if2 .left), lit< tt)
 
 pub by-ids-spec : {M : Type 1} → statement M
 by-ids-spec =
     tie.close
-    (tie.spec own-of-requires row-holds-requires returns wrong-pds-requires returns-2 returns-3)
+    (tie.spec own-of-requires row-holds-requires returns returns-2 returns-3)

@@ -1,6 +1,6 @@
 -- By the kind.
 use mathlib.Core.Path.{_∙_, refl, sym}
-use Rattle.judge.proofs.Laws.{over-other}
+use Rattle.judge.proofs.Laws.{over-is, over-other}
 use borrow.Author.Needs.{needs}
 use Rattle.judge.proofs.passed_over.Statement.{statement}
 use Rattle.judge.proofs.passed_over.Tie as tie
@@ -20,8 +20,11 @@ enum-told-3 c = search needs
 enum-told-4 : tie.Need-enum-told-4
 enum-told-4 c = search needs
 
-rebind-passed-over-requires : tie.Need-rebind-passed-over-requires
-rebind-passed-over-requires c κs = let s = c .before .before .before .before .before in (s .pre .0, s .pre .1, sym (c .before .before .kind-of .ensures) ∙ c .enum-told4 .given .1)
+client-of-requires : tie.Need-client-of-requires
+client-of-requires c κs = search needs
+
+silent-requires : tie.Need-silent-requires
+silent-requires c κs = search needs
 
 enum-told-5 : tie.Need-enum-told-5
 enum-told-5 c = search needs
@@ -36,7 +39,7 @@ returns-3 : tie.Need-returns-3
 returns-3 c = over-other _ _ _ (c .before .before .kind-of .ensures) (c .enum-told3 .given .1) refl
 
 returns-4 : tie.Need-returns-4
-returns-4 c = search needs
+returns-4 c = let s = c .before .before .before .before .before .before .before in over-is _ _ _ _ (s .pre .0) (s .pre .2 .is) (sym (c .before .before .enum-told4 .given .1) ∙ c .before .before .before .before .kind-of .ensures) (c .before .client-of .ensures) (c .silent .ensures)
 
 returns-5 : tie.Need-returns-5
 returns-5 c = over-other _ _ _ (c .before .before .kind-of .ensures) (c .enum-told5 .given .1) refl
@@ -50,7 +53,8 @@ passed-over-spec =
     enum-told-2
     enum-told-3
     enum-told-4
-    rebind-passed-over-requires
+    client-of-requires
+    silent-requires
     enum-told-5
     returns
     returns-2
