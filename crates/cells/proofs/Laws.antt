@@ -6,7 +6,7 @@
 --   zero-join                         zeros after zeros
 --   zero-.., same-.., moved-..        loops: one block a turn, and what is left at the end
 use mathlib.Core.Path.{_≡_, refl, sym, ap, _∙_}
-use mathlib.Core.Bool.{Bool, true, false, _&&_, and-assoc}
+use mathlib.Core.Bool.{Bool, true, false, _&&_, and-assoc, and-false}
 use mathlib.Core.List.{List, [], _∷_, _++_}
 use Prim.Native.Nat.{ℕ, zero, suc, _+_, _-_, _*_, _/_, _%_, _^_, _≤_, _<_}
 use native.Mathlib.Omega.{arith}
@@ -254,6 +254,13 @@ module _ (t : List ℕ) (at : ℕ) where
     pub same-last : (k : ℕ) {x : Bool} → k ≤ length s → 8 ≤ length s → length s - 8 ≤ k → x ≡ sames (length s - 8) 8
         → sameBytes (part at (length s) t) s ≡ sames k (length s - k) → at + length s ≤ length t → x ≡ sameBytes (part at (length s) t) s
     same-last k h g l e q f = last sames (length s) 8 (sames-split f) k h g l e (rw (add-zero, part-all)) q
+
+    -- the last eight are not the same
+    pub same-other : 8 ≤ length s → false ≡ sames (length s - 8) 8 → at + length s ≤ length t → false ≡ sameBytes (part at (length s) t) s
+    same-other g e f =
+        let c : length s - 8 + 8 ≡ length s = omega arith in
+        sym
+        (rw (add-zero, part-all) at (ap (sames 0) (sym c) ∙ sames-split f 0 (length s - 8) 8 (omega arith) ∙ ap (λ (i : ℕ). sames 0 (length s - 8) && sames i 8) (zero-add (length s - 8)) ∙ ap (λ y. sames 0 (length s - 8) && y) (sym e) ∙ and-false (sames 0 (length s - 8))))
 
 -- ---------------------------------------------------------------- a part moved down, in blocks of 16
 

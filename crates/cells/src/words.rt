@@ -147,12 +147,15 @@ pub fn ends_zero(t: &[u8], at: usize, n: usize) -> bool
     zero8(t, at) & zero8(t, at + (n - 8))
 }
 
-// Whether the bytes from `at` are those of s, which has at least eight. The last eight may be some that were compared before.
+// Whether the bytes from `at` are those of s, which has at least eight. The last eight are compared first: there one maker's DUIDs differ.
 pub fn same(t: &[u8], at: usize, s: &[u8]) -> bool
     requires { ⌜ (8 ≤ length (now s)) × (at + length (now s) ≤ length (now t)) ⌝ }
     ensures { λ r. ⌜ r ≡ sameBytes (part at (length (now (s .entry))) (now (t .entry))) (now (s .entry)) ⌝ }
 {
     let last = s.len() - 8;
+    if get8(t, at + last) != get8(s, last) {
+        return false;
+    }
     let mut k: usize = 0;
     while k < last {
         if get8(t, at + k) != get8(s, k) {
@@ -160,7 +163,7 @@ pub fn same(t: &[u8], at: usize, s: &[u8]) -> bool
         }
         k += 8;
     }
-    get8(t, at + last) == get8(s, last)
+    true
 }
 
 // The n blocks of 16 bytes from `from` into those from `to`, which is not above `from`: the two may overlap.
