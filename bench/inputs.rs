@@ -38,6 +38,8 @@ struct World {
     lengths: Lengths,
     /// When the first record ends; the others follow.
     first_end: u64,
+    /// The record whose identity asks, of n.
+    asker: fn(usize) -> usize,
 }
 
 /// A real one with an IAID of its own, from the device's address as dhclient makes it.
@@ -178,12 +180,13 @@ impl World {
         table
     }
 
-    /// The message of a kind: from the identity in the middle, or from a new one.
+    /// The message of a kind: from the identity of a record, or from a new one.
     fn message(&self, kind: &str, n: usize) -> Vec<u8> {
         let new = (self.identities.1)(NEW);
-        let bound = (self.identities.1)(n / 2);
+        let asker = (self.asker)(n);
+        let bound = (self.identities.1)(asker);
         let prefix = |(upper, length): (u64, u8)| Prefix::new((upper as u128) << 64, length);
-        let own = || Some(prefix((self.order.1)(n / 2, n)));
+        let own = || Some(prefix((self.order.1)(asker, n)));
         match kind {
             "live" => vec![],
             "solicit-new" => message(SOLICIT, &new, OWN, None),
@@ -243,14 +246,14 @@ const KINDS: [&str; 11] = [
 
 const DEAR: [&str; 6] = ["live", "renew", "renew-long", "rebind", "rebind-long", "rebind-deep"];
 
-/// Tables and messages that were made to be dear.
+/// Tables and messages that were made to be dear: the last record's identity asks, as it is found last.
 fn dear() -> Vec<Input> {
     let identities: [(&str, fn(usize) -> Identity); 5] =
         [("real", real), ("late", late), ("last", last), ("twins", twins), ("tree", tree)];
     let mut all = Vec::new();
     for identities in identities {
         for (name, first_end) in [("mixed", FIRST_END), ("mixed-ended", ENDED)] {
-            let world = World { identities, order: (name, mixed), lengths: USUAL, first_end };
+            let world = World { identities, order: (name, mixed), lengths: USUAL, first_end, asker: |n| n - 1 };
             all.extend(DEAR.map(|kind| world.input(kind, 256)));
         }
     }
@@ -267,10 +270,10 @@ pub fn inputs() -> Vec<Input> {
         for order in orders {
             let every = order.0 == "ascending" && identities.0 != "iaids";
             let kinds = if every { &KINDS[..] } else { &["live"] };
-            all.extend(World { identities, order, lengths: USUAL, first_end: FIRST_END }.inputs(kinds));
+            all.extend(World { identities, order, lengths: USUAL, first_end: FIRST_END, asker: |n| n / 2 }.inputs(kinds));
         }
     }
-    let real = |order, lengths| World { identities: identities[0], order, lengths, first_end: FIRST_END };
+    let real = |order, lengths| World { identities: identities[0], order, lengths, first_end: FIRST_END, asker: |n| n / 2 };
     all.extend(real(("packed", packed), USUAL).inputs(&["live", "solicit-new"]));
     all.extend(real(("filled", filled), WIDE).inputs(&["live", "solicit-worst"]));
     all.extend(dear());

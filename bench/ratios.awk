@@ -68,7 +68,7 @@ function choice(title, world, kind) {
 }
 
 # One row a table, one column a message: in copies of the table, and as a multiple of the typical message of its kind.
-function dear(    i, j, k, who, order, kind, line, x) {
+function dear(    i, j, k, who, order, kind, line, x, times) {
     split("real late last twins tree", who, " ")
     split("mixed mixed-ended", order, " ")
     split("renew renew-long rebind rebind-long rebind-deep", kind, " ")
@@ -81,10 +81,37 @@ function dear(    i, j, k, who, order, kind, line, x) {
         line = "| " who[i] ", " order[j] " |"
         for (k = 1; k in kind; k++) {
             x = cost(who[i] SUBSEP order[j], kind[k], 4, "proved")
-            line = line " " show(x / copy) " (" show(x / cost("real" SUBSEP "ascending", k < 3 ? "renew" : "rebind", 4, "proved")) ") |"
+            times = x / cost("real" SUBSEP "ascending", k < 3 ? "renew" : "rebind", 4, "proved")
+            if (times > dearest) dearest = times
+            line = line " " show(x / copy) " (" show(times) ") |"
         }
         print line
     }
+}
+
+# The most that soundness takes of the side that goes the same way, over every table.
+function most_over(side,    part, i, x, most) {
+    for (i in value) {
+        split(i, part, SUBSEP)
+        if (part[3] != "live" || part[5] != "proved") continue
+        x = (value[i] - copy) / (value[part[1], part[2], part[3], part[4], side] - copy)
+        if (x > most) most = x
+    }
+    return most
+}
+
+function bound(what, is, most) {
+    printf "%s %s: %.2f, at most %s\n", is <= most ? "kept" : "BROKEN", what, is, most
+    if (is > most) broken = 1
+}
+
+function bounds(    growth) {
+    growth = cost("real" SUBSEP "ascending", "renew", 4, "proved") / cost("real" SUBSEP "ascending", "renew", 2, "proved")
+    print "\nBounds"
+    print ""
+    bound("soundness of every table over plain Rust that goes the same way", most_over("sorted"), 1.5)
+    bound("a Renew with 256 records over one with 16, over that of n log n", growth / 32, 1.2)
+    bound("the dearest of all over the typical message of its kind", dearest, 4)
 }
 
 END {
@@ -104,4 +131,6 @@ END {
     choice("the first place is free", "real" SUBSEP "ascending", "solicit-new")
     choice("the first free place is the last", "real" SUBSEP "packed", "solicit-new")
     choice("the worst", "real" SUBSEP "filled", "solicit-worst")
+    if (unit == "instructions") bounds()
+    exit broken
 }
