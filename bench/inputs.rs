@@ -57,6 +57,14 @@ fn late(i: usize) -> Identity {
     Identity { iaid: 1, duid }
 }
 
+/// 130 bytes, alike but for byte 97, which a comparison of two DUIDs comes to last.
+fn middle(i: usize) -> Identity {
+    let mut duid = vec![7; 130];
+    duid[96] = (i == NEW) as u8;
+    duid[97] = (i as u8).wrapping_mul(97);
+    Identity { iaid: 1, duid }
+}
+
 /// 130 bytes, alike but for the last byte that the look by identity doesn't see.
 fn last(i: usize) -> Identity {
     let mut duid = vec![7; 130];
@@ -248,8 +256,8 @@ const DEAR: [&str; 6] = ["live", "renew", "renew-long", "rebind", "rebind-long",
 
 /// Tables and messages that were made to be dear: the last record's identity asks, as it is found last.
 fn dear() -> Vec<Input> {
-    let identities: [(&str, fn(usize) -> Identity); 5] =
-        [("real", real), ("late", late), ("last", last), ("twins", twins), ("tree", tree)];
+    let identities: [(&str, fn(usize) -> Identity); 6] =
+        [("real", real), ("late", late), ("middle", middle), ("last", last), ("twins", twins), ("tree", tree)];
     let mut all = Vec::new();
     for identities in identities {
         for (name, first_end) in [("mixed", FIRST_END), ("mixed-ended", ENDED)] {

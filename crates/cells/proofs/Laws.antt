@@ -10,7 +10,7 @@ use mathlib.Core.Bool.{Bool, true, false, _&&_, and-assoc, and-false}
 use mathlib.Core.List.{List, [], _∷_, _++_}
 use Prim.Native.Nat.{ℕ, zero, suc, _+_, _-_, _*_, _/_, _%_, _^_, _≤_, _<_}
 use native.Mathlib.Omega.{arith}
-use native.Mathlib.Nat.{add-zero, zero-add, suc-add, mul-comm, mul-assoc, mod-eq-of-lt}
+use native.Mathlib.Nat.{add-zero, zero-add, sub-zero, suc-add, mul-comm, mul-assoc, mod-eq-of-lt}
 use lib.Dec.{eqb}
 use lib.ListN.{length, getD, set, take, drop, replicate}
 use lib.Seq.{take-length, take-add, drop-drop}
@@ -120,6 +120,10 @@ same-join t s i j a b h g =
     ap (λ l. sameBytes l (part j (a + b) s)) (part-join i a b t)
     ∙ ap (sameBytes (part i a t ++ part (i + a) b t)) (part-join j a b s)
     ∙ same-append (part i a t) (part (i + a) b t) (part j a s) (part (j + a) b s) (length-part i a t h ∙ sym (length-part j a s g))
+
+pub same-both : (t s : List ℕ) (i j a b : ℕ) {x y : Bool} → i + a ≤ length t → j + a ≤ length s → x ≡ sameBytes (part i a t) (part j a s) → y ≡ sameBytes (part (i + a) b t) (part (j + a) b s)
+    → x && y ≡ sameBytes (part i (a + b) t) (part j (a + b) s)
+same-both t s i j a b h g e f = rw (e, f) (sym (same-join t s i j a b h g))
 
 pub zero-join : (t : List ℕ) (i a b : ℕ) {x y : Bool} → x ≡ all (eqb 0) (part i a t) → y ≡ all (eqb 0) (part (i + a) b t) → x && y ≡ all (eqb 0) (part i (a + b) t)
 zero-join t i a b e f = rw (e, f, part-join i a b t, all-append)
@@ -247,20 +251,32 @@ module _ (t : List ℕ) (at : ℕ) where
         let e : at + i + a ≡ at + (i + a) = omega arith in
         same-join t s (at + i) i a b (omega arith) (omega arith) ∙ ap (λ (j : ℕ). sames i a && sameBytes (part j b t) (part (i + a) b s)) e
 
-    pub same-turn : (k : ℕ) {x : Bool} → k + 8 ≤ length s → x ≡ sames k 8 → at + length s ≤ length t
-        → sames k (length s - k) ≡ x && sames (k + 8) (length s - (k + 8))
-    same-turn k h e f = turn sames (length s) 8 (sames-split f) k h e
+    module _ (w : ℕ) where
+      pub same-turn : (k : ℕ) {x : Bool} → k + w ≤ length s → x ≡ sames k w → at + length s ≤ length t
+          → sames k (length s - k) ≡ x && sames (k + w) (length s - (k + w))
+      same-turn k h e f = turn sames (length s) w (sames-split f) k h e
 
-    pub same-last : (k : ℕ) {x : Bool} → k ≤ length s → 8 ≤ length s → length s - 8 ≤ k → x ≡ sames (length s - 8) 8
-        → sameBytes (part at (length s) t) s ≡ sames k (length s - k) → at + length s ≤ length t → x ≡ sameBytes (part at (length s) t) s
-    same-last k h g l e q f = last sames (length s) 8 (sames-split f) k h g l e (rw (add-zero, part-all)) q
+      pub same-last : (k : ℕ) {x : Bool} → k ≤ length s → w ≤ length s → length s - w ≤ k → x ≡ sames (length s - w) w
+          → sameBytes (part at (length s) t) s ≡ sames k (length s - k) → at + length s ≤ length t → x ≡ sameBytes (part at (length s) t) s
+      same-last k h g l e q f = last sames (length s) w (sames-split f) k h g l e (rw (add-zero, part-all)) q
 
-    -- the last eight are not the same
-    pub same-other : 8 ≤ length s → false ≡ sames (length s - 8) 8 → at + length s ≤ length t → false ≡ sameBytes (part at (length s) t) s
-    same-other g e f =
-        let c : length s - 8 + 8 ≡ length s = omega arith in
-        sym
-        (rw (add-zero, part-all) at (ap (sames 0) (sym c) ∙ sames-split f 0 (length s - 8) 8 (omega arith) ∙ ap (λ (i : ℕ). sames 0 (length s - 8) && sames i 8) (zero-add (length s - 8)) ∙ ap (λ y. sames 0 (length s - 8) && y) (sym e) ∙ and-false (sames 0 (length s - 8))))
+      -- the last ones are not the same
+      pub same-other : w ≤ length s → false ≡ sames (length s - w) w → at + length s ≤ length t → false ≡ sameBytes (part at (length s) t) s
+      same-other g e f =
+          let c : length s - w + w ≡ length s = omega arith in
+          sym
+          (rw (add-zero, part-all) at (ap (sames 0) (sym c) ∙ sames-split f 0 (length s - w) w (omega arith) ∙ ap (λ (i : ℕ). sames 0 (length s - w) && sames i w) (zero-add (length s - w)) ∙ ap (λ y. sames 0 (length s - w) && y) (sym e) ∙ and-false (sames 0 (length s - w))))
+
+      -- the first ones, where the last ones are the same and there is no room between
+      pub same-first : {x : Bool} → w ≤ length s → length s ≤ w + w → true ≡ sames (length s - w) w → at + length s ≤ length t → x ≡ sameBytes (part at w t) (part 0 w s) → x ≡ sameBytes (part at (length s) t) s
+      same-first {x} g h e f q = by x (rw (zero-add w) at (whole ∙ same-turn 0 (omega arith) (q ∙ (rw add-zero)) f))
+        where
+          whole : sameBytes (part at (length s) t) s ≡ sames 0 (length s - 0)
+          whole = rw (add-zero, sub-zero, part-all)
+
+          by : (b : Bool) → sameBytes (part at (length s) t) s ≡ b && sames w (length s - w) → b ≡ sameBytes (part at (length s) t) s
+          by true p = same-last w g g (omega arith) e p f
+          by false p = sym p
 
 -- ---------------------------------------------------------------- a part moved down, in blocks of 16
 

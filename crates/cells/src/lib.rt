@@ -115,8 +115,11 @@ pub fn same_bytes(t: &[u8], at: usize, s: &[u8]) -> bool
     requires { ⌜ at + length (now s) ≤ length (now t) ⌝ }
     ensures { λ r. ⌜ r ≡ sameBytes (part at (length (now (s .entry))) (now (t .entry))) (now (s .entry)) ⌝ }
 {
-    if 8 <= s.len() {
+    if 32 <= s.len() {
         return words::same(t, at, s);
+    }
+    if 8 <= s.len() {
+        return words::ends_same(t, at, s);
     }
     let mut k: usize = 0;
     while k < s.len() {

@@ -147,23 +147,63 @@ pub fn ends_zero(t: &[u8], at: usize, n: usize) -> bool
     zero8(t, at) & zero8(t, at + (n - 8))
 }
 
-// Whether the bytes from `at` are those of s, which has at least eight. The last eight are compared first: there one maker's DUIDs differ.
+// Whether the 8, 16 and 32 bytes of t from i are those of s from j.
+fn same8(t: &[u8], i: usize, s: &[u8], j: usize) -> bool
+    requires { ⌜ (i + 8 ≤ length (now t)) × (j + 8 ≤ length (now s)) ⌝ }
+    ensures { λ r. ⌜ r ≡ sameBytes (part i 8 (now (t .entry))) (part j 8 (now (s .entry))) ⌝ }
+{
+    get8(t, i) == get8(s, j)
+}
+
+fn same16(t: &[u8], i: usize, s: &[u8], j: usize) -> bool
+    requires { ⌜ (i + 16 ≤ length (now t)) × (j + 16 ≤ length (now s)) ⌝ }
+    ensures { λ r. ⌜ r ≡ sameBytes (part i 16 (now (t .entry))) (part j 16 (now (s .entry))) ⌝ }
+{
+    same8(t, i, s, j) & same8(t, i + 8, s, j + 8)
+}
+
+fn same32(t: &[u8], i: usize, s: &[u8], j: usize) -> bool
+    requires { ⌜ (i + 32 ≤ length (now t)) × (j + 32 ≤ length (now s)) ⌝ }
+    ensures { λ r. ⌜ r ≡ sameBytes (part i 32 (now (t .entry))) (part j 32 (now (s .entry))) ⌝ }
+{
+    same16(t, i, s, j) & same16(t, i + 16, s, j + 16)
+}
+
+// Whether the bytes from `at` are those of s, which has at least 32. The last ones are compared first: there DUIDs of one maker differ.
 pub fn same(t: &[u8], at: usize, s: &[u8]) -> bool
-    requires { ⌜ (8 ≤ length (now s)) × (at + length (now s) ≤ length (now t)) ⌝ }
+    requires { ⌜ (32 ≤ length (now s)) × (at + length (now s) ≤ length (now t)) ⌝ }
     ensures { λ r. ⌜ r ≡ sameBytes (part at (length (now (s .entry))) (now (t .entry))) (now (s .entry)) ⌝ }
 {
-    let last = s.len() - 8;
-    if get8(t, at + last) != get8(s, last) {
+    let last = s.len() - 32;
+    if !same32(t, at + last, s, last) {
         return false;
     }
     let mut k: usize = 0;
     while k < last {
-        if get8(t, at + k) != get8(s, k) {
+        if !same32(t, at + k, s, k) {
             return false;
         }
-        k += 8;
+        k += 32;
     }
     true
+}
+
+// The same for 8 to 32 bytes: the last and the first block of a size that leaves nothing between.
+pub fn ends_same(t: &[u8], at: usize, s: &[u8]) -> bool
+    requires { ⌜ (8 ≤ length (now s)) × (length (now s) ≤ 32) × (at + length (now s) ≤ length (now t)) ⌝ }
+    ensures { λ r. ⌜ r ≡ sameBytes (part at (length (now (s .entry))) (now (t .entry))) (now (s .entry)) ⌝ }
+{
+    let n = s.len();
+    if n < 16 {
+        if !same8(t, at + (n - 8), s, n - 8) {
+            return false;
+        }
+        return same8(t, at, s, 0);
+    }
+    if !same16(t, at + (n - 16), s, n - 16) {
+        return false;
+    }
+    same16(t, at, s, 0)
 }
 
 // The n blocks of 16 bytes from `from` into those from `to`, which is not above `from`: the two may overlap.

@@ -2,7 +2,6 @@ use borrow.Author.Needs.{needs}
 use mathlib.Core.Path.{_≡_, sym, _∙_}
 use Prim.Native.Nat.{_+_, _-_, _≤_}
 use native.Mathlib.Omega.{arith}
-use borrow.Author.Needs.{needs}
 use native.Mathlib.Nat.{add-zero, sub-zero}
 use lib.ListN.{length, drop}
 use Rattle.rules.specs.Words.{part, sameBytes}
@@ -22,20 +21,26 @@ same-requires c κs = search needs
 returns : tie.Need-returns Inv-loop μ-loop
 returns c = c .same .ensures
 
+ends-same-requires : tie.Need-ends-same-requires Inv-loop μ-loop
+ends-same-requires c κs = search needs
+
+returns-2 : tie.Need-returns-2 Inv-loop μ-loop
+returns-2 c = c .ends-same .ensures
+
 loop-holds : tie.Need-loop-holds Inv-loop μ-loop
 loop-holds c = (omega arith, rw (add-zero, sub-zero))
 
-add-if2 : tie.Need-add-if2 Inv-loop μ-loop
-add-if2 c = search needs
+add-if3 : tie.Need-add-if3 Inv-loop μ-loop
+add-if3 c = search needs
 
-shared-slice-read-if2 : tie.Need-shared-slice-read-if2 Inv-loop μ-loop
-shared-slice-read-if2 c = search needs
+shared-slice-read-if3 : tie.Need-shared-slice-read-if3 Inv-loop μ-loop
+shared-slice-read-if3 c = search needs
 
-shared-slice-read-if2-2 : tie.Need-shared-slice-read-if2-2 Inv-loop μ-loop
-shared-slice-read-if2-2 c = search needs
+shared-slice-read-if3-2 : tie.Need-shared-slice-read-if3-2 Inv-loop μ-loop
+shared-slice-read-if3-2 c = search needs
 
-returns-2 : tie.Need-returns-2 Inv-loop μ-loop
-returns-2 c = sym (c .before .before .before .before .loop .inv .1 ∙ same-stop _ _ _ _ _ (c .before .before .before .loop-test .taken) (search needs) (c .before .before .before .loop-test .taken) (c .if2 .taken))
+returns-3 : tie.Need-returns-3 Inv-loop μ-loop
+returns-3 c = sym (c .before .before .before .before .loop .inv .1 ∙ same-stop _ _ _ _ _ (c .before .before .before .loop-test .taken) (search needs) (c .before .before .before .loop-test .taken) (c .if3 .taken))
 
 add-k : tie.Need-add-k Inv-loop μ-loop
 add-k c = search needs
@@ -44,10 +49,10 @@ loop-less : tie.Need-loop-less Inv-loop μ-loop
 loop-less c = search needs
 
 loop-again : tie.Need-loop-again Inv-loop μ-loop
-loop-again c = (search needs, c .before .before .before .before .loop .inv .1 ∙ same-go _ _ _ _ _ (c .before .before .before .loop-test .taken) (search needs) (c .before .before .before .loop-test .taken) (c .if2 .left))
+loop-again c = (search needs, c .before .before .before .before .loop .inv .1 ∙ same-go _ _ _ _ _ (c .before .before .before .loop-test .taken) (search needs) (c .before .before .before .loop-test .taken) (c .if3 .left))
 
-returns-3 : tie.Need-returns-3 Inv-loop μ-loop
-returns-3 c = sym (c .before .loop .inv .1 ∙ same-end _ _ _ _ _ (c .loop-test .left) (c .loop-test .left))
+returns-4 : tie.Need-returns-4 Inv-loop μ-loop
+returns-4 c = sym (c .before .loop .inv .1 ∙ same-end _ _ _ _ _ (c .loop-test .left) (c .loop-test .left))
 
 pub same-bytes-spec : {M : Type 1} → statement M
 same-bytes-spec =
@@ -57,12 +62,14 @@ same-bytes-spec =
     μ-loop
     same-requires
     returns
-    loop-holds
-    add-if2
-    shared-slice-read-if2
-    shared-slice-read-if2-2
+    ends-same-requires
     returns-2
+    loop-holds
+    add-if3
+    shared-slice-read-if3
+    shared-slice-read-if3-2
+    returns-3
     add-k
     loop-less
     loop-again
-    returns-3)
+    returns-4)
