@@ -91,6 +91,16 @@ fn tree(i: usize) -> Identity {
     Identity { iaid: 1, duid }
 }
 
+/// The same with every second number.
+fn comb(i: usize) -> Identity {
+    let mut duid = vec![7; 130];
+    duid[29] = (i == NEW) as u8;
+    for bit in 0..8 {
+        duid[30 + 12 * bit] = (i >> bit & 1) as u8;
+    }
+    Identity { iaid: 1, duid }
+}
+
 fn standard(place: usize) -> (u64, u8) {
     (POOL | (place as u64) << (64 - USUAL.standard), USUAL.standard)
 }
@@ -256,8 +266,8 @@ const DEAR: [&str; 6] = ["live", "renew", "renew-long", "rebind", "rebind-long",
 
 /// Tables and messages that were made to be dear: the last record's identity asks, as it is found last.
 fn dear() -> Vec<Input> {
-    let identities: [(&str, fn(usize) -> Identity); 6] =
-        [("real", real), ("late", late), ("middle", middle), ("last", last), ("twins", twins), ("tree", tree)];
+    let identities: [(&str, fn(usize) -> Identity); 7] =
+        [("real", real), ("late", late), ("middle", middle), ("last", last), ("twins", twins), ("tree", tree), ("comb", comb)];
     let mut all = Vec::new();
     for identities in identities {
         for (name, first_end) in [("mixed", FIRST_END), ("mixed-ended", ENDED)] {

@@ -69,7 +69,7 @@ function choice(title, world, kind) {
 
 # One row a table, one column a message: in copies of the table, and as a multiple of the typical message of its kind.
 function dear(    i, j, k, who, order, kind, line, x, times) {
-    split("real late middle last twins tree", who, " ")
+    split("real late middle last twins tree comb", who, " ")
     split("mixed mixed-ended", order, " ")
     split("renew renew-long rebind rebind-long rebind-deep", kind, " ")
     line = "| identities, order |"
