@@ -1,8 +1,8 @@
 // One record's fields, read in place.
 ghost use mathlib.Core.Path.{_≡_};
-ghost use Prim.Native.Nat.{_*_, _≤_, _<_, _^_};
+ghost use Prim.Native.Nat.{_+_, _*_, _≤_, _<_, _^_};
 ghost use lib.ListN.{length};
-ghost use Rattle.rules.specs.Words.{sameBytes};
+ghost use Rattle.rules.specs.Words.{part, sameBytes};
 ghost use Rattle.rules.specs.Prefix.{prefix};
 ghost use Rattle.rules.specs.Table.{area, live};
 ghost use Rattle.rules.specs.TableBytes.{tableSize, recordAt};
@@ -48,6 +48,21 @@ pub fn duid_len(t: &[u8], i: usize) -> usize
     if n < 130 { n as usize } else { 130 }
 }
 
+// Whether the bytes from `at` are those of s. The last one is looked at first and here: there DUIDs of one maker differ.
+fn are_bytes(t: &[u8], at: usize, s: &[u8]) -> bool
+    requires { ⌜ at + length (now s) ≤ length (now t) ⌝ }
+    ensures { λ r. ⌜ r ≡ sameBytes (part at (length (now (s .entry))) (now (t .entry))) (now (s .entry)) ⌝ }
+{
+    let n = s.len();
+    if n == 0 {
+        return true;
+    }
+    if t[at + (n - 1)] != s[n - 1] {
+        return false;
+    }
+    cells::same_bytes(t, at, s)
+}
+
 // Whether record i's DUID is this one.
 pub fn has_duid(t: &[u8], i: usize, duid: &[u8]) -> bool
     requires { ⌜ (i < 256) × (tableSize ≤ length (now t)) ⌝ }
@@ -56,5 +71,5 @@ pub fn has_duid(t: &[u8], i: usize, duid: &[u8]) -> bool
     if duid_len(t, i) != duid.len() {
         return false;
     }
-    cells::same_bytes(t, 176 + i * 153 + 23, duid)
+    are_bytes(t, 176 + i * 153 + 23, duid)
 }

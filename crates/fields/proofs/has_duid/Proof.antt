@@ -10,20 +10,20 @@ duid-len-requires c κs = search needs
 returns : tie.Need-returns
 returns c = owner-other _ _ (c .before .before .before .before .pre .0) (c .before .before .before .before .pre .1) _ (c .before .duid-len .ensures .0) (c .if1 .taken)
 
-mul-same-bytes : tie.Need-mul-same-bytes
-mul-same-bytes c = search needs
+mul-are-bytes : tie.Need-mul-are-bytes
+mul-are-bytes c = search needs
 
-add-same-bytes : tie.Need-add-same-bytes
-add-same-bytes c = search needs
+add-are-bytes : tie.Need-add-are-bytes
+add-are-bytes c = search needs
 
-add-same-bytes-2 : tie.Need-add-same-bytes-2
-add-same-bytes-2 c = search needs
+add-are-bytes-2 : tie.Need-add-are-bytes-2
+add-are-bytes-2 c = search needs
 
-same-bytes-requires : tie.Need-same-bytes-requires
-same-bytes-requires c κs = search needs
+are-bytes-requires : tie.Need-are-bytes-requires
+are-bytes-requires c κs = search needs
 
 returns-2 : tie.Need-returns-2
-returns-2 c = owner-same _ _ (c .before .before .before .before .before .pre .0) (c .before .before .before .before .before .pre .1) _ (c .before .before .duid-len .ensures .0) (c .before .if1 .left) (c .same-bytes .ensures)
+returns-2 c = owner-same _ _ (c .before .before .before .before .before .pre .0) (c .before .before .before .before .before .pre .1) _ (c .before .before .duid-len .ensures .0) (c .before .if1 .left) (c .are-bytes .ensures)
 
 pub has-duid-spec : {M : Type 1} → statement M
 has-duid-spec =
@@ -31,8 +31,8 @@ has-duid-spec =
     (tie.spec
     duid-len-requires
     returns
-    mul-same-bytes
-    add-same-bytes
-    add-same-bytes-2
-    same-bytes-requires
+    mul-are-bytes
+    add-are-bytes
+    add-are-bytes-2
+    are-bytes-requires
     returns-2)
