@@ -68,7 +68,7 @@ function choice(title, world, kind) {
 }
 
 # One row a table, one column a message: in copies of the table, and as a multiple of the typical message of its kind.
-function dear(    i, j, k, who, order, kind, line, x, times) {
+function dear(    i, j, k, who, order, kind, line, x, times, against) {
     split("real late middle last twins tree comb", who, " ")
     split("mixed mixed-ended", order, " ")
     split("renew renew-long rebind rebind-long rebind-deep", kind, " ")
@@ -82,7 +82,8 @@ function dear(    i, j, k, who, order, kind, line, x, times) {
         for (k = 1; k in kind; k++) {
             x = cost(who[i] SUBSEP order[j], kind[k], 4, "proved")
             times = x / cost("real" SUBSEP "ascending", k < 3 ? "renew" : "rebind", 4, "proved")
-            if (times > dearest) dearest = times
+            against = who[i] ~ /middle|tree|comb/
+            if (times > dearest[against]) dearest[against] = times
             line = line " " show(x / copy) " (" show(times) ") |"
         }
         print line
@@ -111,7 +112,8 @@ function bounds(    growth) {
     print ""
     bound("soundness of every table over plain Rust that goes the same way", most_over("sorted"), 1.5)
     bound("a Renew with 256 records over one with 16, over that of n log n", growth / 32, 1.2)
-    bound("the dearest of all over the typical message of its kind", dearest, 4)
+    bound("the dearest over the typical message of its kind", dearest[0], 4)
+    bound("the dearest with names made against the merge and the search", dearest[1], 4.5)
 }
 
 END {
