@@ -1,10 +1,11 @@
 // What one walk over a message notes for every question that is asked of it.
 ghost use mathlib.Core.Path.{_≡_};
-ghost use mathlib.Core.Bool.{false, _&&_, _||_};
+ghost use mathlib.Core.Bool.{true, false, _&&_, _||_};
 ghost use Prim.Native.Nat.{_+_, _≤_, _<_, _^_};
 ghost use lib.Dec.{eqb};
 ghost use lib.ListN.{length};
 ghost use Rattle.rules.specs.Words.{part};
+ghost use Rattle.rules.specs.Refusals.{wrongSize};
 ghost use Rattle.rules.specs.Options.{own, isGood};
 ghost use Rattle.rules.specs.Message.{asks67};
 ghost use Rattle.rules.specs.declared.Level.the-variants.{Top};
@@ -114,13 +115,24 @@ fn no_notes() -> Notes
     }
 }
 
-// The notes of a message. Most options tell nothing, so they are passed over at once.
-pub fn notes_of(msg: &[u8]) -> Notes
+// The notes of one that is.
+fn whole(client: Note, server: Note, pd: Note, asks: bool) -> Notes
+    ensures { λ r. ⌜ r ≡ notes true client server pd asks ⌝ }
+{
+    Notes {
+        formed: true,
+        client,
+        server,
+        pd,
+        asks,
+    }
+}
+
+// The notes of a message that has the right size. Most options tell nothing, so they are passed over at once.
+fn walked(msg: &[u8]) -> Notes
+    requires { ⌜ wrongSize (now msg) ≡ false ⌝ }
     ensures { λ r. ⌜ Heard (now (msg .entry)) r ⌝ }
 {
-    if (msg.len() < 4) | (1232 < msg.len()) {
-        return no_notes();
-    }
     let mut client = nothing();
     let mut server = nothing();
     let mut pd = nothing();
@@ -146,19 +158,23 @@ pub fn notes_of(msg: &[u8]) -> Notes
                 p = next;
             }
             Step::End => {
-                return Notes {
-                    formed: true,
-                    client,
-                    server,
-                    pd,
-                    asks,
-                };
+                return whole(client, server, pd, asks);
             }
             Step::Bad(_) => {
                 return no_notes();
             }
         }
     }
+}
+
+// The notes of a message.
+pub fn notes_of(msg: &[u8]) -> Notes
+    ensures { λ r. ⌜ Heard (now (msg .entry)) r ⌝ }
+{
+    if (msg.len() < 4) | (1232 < msg.len()) {
+        return no_notes();
+    }
+    walked(msg)
 }
 
 // The one Client ID of a message, as that stretch of it: empty where there isn't exactly one.
