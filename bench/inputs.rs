@@ -49,28 +49,26 @@ fn iaids(i: usize) -> Identity {
     Identity { iaid: u32::from_be_bytes([a, b, c, d]), duid }
 }
 
-/// 130 bytes, alike but for byte 120, in no order (and byte 119, for the one that isn't in the table).
+/// 130 bytes, alike but for one, in no order (and the one before it, for the identity that isn't in the table).
+fn alike(i: usize, but: usize) -> Identity {
+    let mut duid = vec![7; 130];
+    duid[but - 1] = (i == NEW) as u8;
+    duid[but] = (i as u8).wrapping_mul(97);
+    Identity { iaid: 1, duid }
+}
+
 fn late(i: usize) -> Identity {
-    let mut duid = vec![7; 130];
-    duid[119] = (i == NEW) as u8;
-    duid[120] = (i as u8).wrapping_mul(97);
-    Identity { iaid: 1, duid }
+    alike(i, 120)
 }
 
-/// 130 bytes, alike but for byte 97, which a comparison of two DUIDs comes to last.
+/// The byte that a comparison of two DUIDs comes to last.
 fn middle(i: usize) -> Identity {
-    let mut duid = vec![7; 130];
-    duid[96] = (i == NEW) as u8;
-    duid[97] = (i as u8).wrapping_mul(97);
-    Identity { iaid: 1, duid }
+    alike(i, 97)
 }
 
-/// 130 bytes, alike but for the last byte that the look by identity doesn't see.
+/// The last byte that the look by identity doesn't see.
 fn last(i: usize) -> Identity {
-    let mut duid = vec![7; 130];
-    duid[119] = (i == NEW) as u8;
-    duid[126] = (i as u8).wrapping_mul(97);
-    Identity { iaid: 1, duid }
+    alike(i, 126)
 }
 
 /// As late ones, but a look at their ends tells all apart, save for two: it finds that out at the last record.
@@ -80,25 +78,24 @@ fn twins(i: usize) -> Identity {
     Identity { iaid, duid }
 }
 
-/// 130 bytes in which eight numbers of six bytes are one of two each: two neighbours by name share much, and each merge of
-/// runs finds that they share a little more.
-fn tree(i: usize) -> Identity {
+/// 130 bytes in which eight numbers of six bytes are one of two each, so many bytes apart.
+fn forked(i: usize, first: usize, apart: usize) -> Identity {
     let mut duid = vec![7; 130];
-    duid[77] = (i == NEW) as u8;
+    duid[first - 6] = (i == NEW) as u8;
     for bit in 0..8 {
-        duid[83 + 6 * bit] = (i >> bit & 1) as u8;
+        duid[first + apart * bit] = (i >> bit & 1) as u8;
     }
     Identity { iaid: 1, duid }
 }
 
+/// Two neighbours by name share much, and each merge of runs finds that they share a little more.
+fn tree(i: usize) -> Identity {
+    forked(i, 83, 6)
+}
+
 /// The same with every second number.
 fn comb(i: usize) -> Identity {
-    let mut duid = vec![7; 130];
-    duid[29] = (i == NEW) as u8;
-    for bit in 0..8 {
-        duid[30 + 12 * bit] = (i >> bit & 1) as u8;
-    }
-    Identity { iaid: 1, duid }
+    forked(i, 30, 12)
 }
 
 fn standard(place: usize) -> (u64, u8) {

@@ -22,13 +22,12 @@ use Rattle.rules.specs.Clock.{Moment, Lifetime, plus, extended}
 use Rattle.rules.specs.Identity.{Identity}
 use Rattle.rules.specs.Message.{Listed}
 use Rattle.rules.specs.Settings.{Settings, goodSettings}
-use Rattle.rules.specs.Table.{Record, isBinding, live, giveUp, current, goodRecord}
+use Rattle.rules.specs.Table.{Record, isBinding, live, current, goodRecord}
 use Rattle.rules.specs.TableBytes.{tableSize, recordAt, settingsOf, countOf, tableOf, soundBytes}
 use Rattle.rules.specs.Choose.{choose}
-use Rattle.rules.specs.Box.{binding, longer, extend, others, gone, isFreed, hintOf, offer, noBinding, success, Served, leaves, Asked, serveSolicit, serveRequest, serveRenew, serveRebind, serveRelease, serve, isSilence}
+use Rattle.rules.specs.Box.{binding, longer, extend, others, gone, isFreed, hintOf, offer, Served, leaves, Asked, serveRebind, serve, isSilence}
 use Rattle.rules.specs.declared.Kind.{Kind}
 use Rattle.rules.specs.declared.Kind.the-variants.{Solicit, Request, Renew, Rebind, Release}
-use Rattle.laws.specs.Tests.{false-true}
 use Rattle.laws.specs.Loops.{firstPlace, at, all-at, first-place, place-passes}
 use Rattle.laws.specs.Binding.{ifLive, binding-current}
 use Rattle.laws.specs.One.{changed, changed-same}

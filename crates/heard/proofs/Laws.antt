@@ -12,9 +12,9 @@ use lib.ListN.{length, getD, take, drop, set, length-set, length-map, length-dro
 use lib.Seq.{take-suc-set, drop-cons, take-length}
 use Rattle.rules.specs.Words.{all, part, sameBytes, numAt}
 use Rattle.rules.specs.Options.{areaOf, options, count, nth}
-use Rattle.rules.specs.Message.{listedAt, iaAt, top, read, wellFormed}
+use Rattle.rules.specs.Message.{listedAt, iaAt, top, read}
 use Rattle.rules.specs.Identity.{Duid, kindOf, identityRows, rowOf, stands, rowHolds}
-use Rattle.rules.specs.Box.{iaOf as askedIa, wrongPds}
+use Rattle.rules.specs.Box.{wrongPds}
 use Rattle.rules.specs.declared.Kind.the-variants.{Release}
 use Rattle.rules.specs.declared.Found.{Found}
 use Rattle.rules.specs.declared.Found.the-variants.{At, Nothing}

@@ -15,7 +15,7 @@ use Rattle.rules.specs.Words.{num, numAt, u16At}
 use Rattle.rules.specs.Refusals.{refuse, done, wrongSize}
 use Rattle.rules.specs.Prefix.{Prefix, prefix, unpacked}
 use Rattle.rules.specs.Options.{areaOf, own, isGood, count, nth}
-use Rattle.rules.specs.Message.{exceptAt, iaAt, top, wellFormed}
+use Rattle.rules.specs.Message.{exceptAt, iaAt, wellFormed}
 use Rattle.rules.specs.Lone.{alone, only, lone, readMessage, Summary, summary}
 use Rattle.rules.specs.declared.Level.{Level}
 use Rattle.rules.specs.declared.Found.{Found}

@@ -1,17 +1,17 @@
 -- Laws that only these proofs need.
 use mathlib.Core.Path.{_≡_, refl, sym, ap, _∙_, subst}
-use mathlib.Core.List.{List, [], map}
-use mathlib.Core.Bool.{Bool, true, false, _&&_}
+use mathlib.Core.List.{List, []}
+use mathlib.Core.Bool.{true, false}
 use Prim.Native.Nat.{ℕ, _+_, _-_, _*_, _^_, _≤_, _<_}
 use native.Mathlib.Omega.{arith}
 use native.Mathlib.Nat.{add-sub-cancel-left}
 use borrow.Author.Tests.{eq-eqb, ne-eqb, lt-ltb, ltb-true}
-use lib.Dec.{eqb, ltb}
+use lib.Dec.{ltb}
 use lib.ListN.{length, getD, take, drop}
-use Rattle.rules.specs.Words.{any, part, num, be, numAt, u16At}
+use Rattle.rules.specs.Words.{part, num, be, numAt, u16At}
 use Rattle.rules.specs.Prefix.{prefix, contentOk, unpacked}
-use Rattle.rules.specs.Options.{inAny, excludeOk, own, areaOf, options, count, nth, content}
-use Rattle.rules.specs.Message.{asks67, statusAt, exceptAt, listedAt, top, read}
+use Rattle.rules.specs.Options.{inAny, excludeOk, own, areaOf, count, nth, content}
+use Rattle.rules.specs.Message.{exceptAt, listedAt, top, read}
 use Rattle.rules.specs.declared.Level.{Level}
 use Rattle.rules.specs.declared.Level.the-variants.{Top, InPd, InPrefix}
 use Rattle.rules.specs.declared.Checked.{Checked}
