@@ -2,7 +2,8 @@
 --   binding, leaseFor, others, gone, isFreed   what an identity has, could get, is told of other prefixes; whether a Release frees
 --   Verdict, serve       what is said of one IA_PD; one IA_PD served, from records to records
 --   answerTo, act        the answer as a value; what a message does that isn't refused
---   boxTests             the refusals in their order
+--   formTests, idTests, pdTests, silenceTests   the refusals by what is judged
+--   messageTests, boxTests                      all of them, in their order
 --   boxStart, boxHandle, boxLive   the operations
 use Prim.Native.Nat.{ℕ, _+_, _*_, _/_}
 use mathlib.Core.Bool.{Bool, true, false, cond, not, _&&_}
@@ -11,7 +12,7 @@ use mathlib.Core.Option.{Option, none, some}
 use lib.Dec.{eqb, leb, ltb}
 use lib.ListN.{length, getD}
 use Rattle.rules.specs.Words.{all, any, keep, first}
-use Rattle.rules.specs.Refusals.{Res, done, unless, badTime, littleRoom, wrongSize}
+use Rattle.rules.specs.Refusals.{Res, done, unless, badTime, lentTests, roomTests, wrongSize}
 use Rattle.rules.specs.Prefix.{Prefix, samePrefix, inside, Lease, lease, exceptFor}
 use Rattle.rules.specs.Message.{Listed, Ia, Message, read, wellFormed, print}
 use Rattle.rules.specs.Clock.{Moment, Lifetime, forEver, plus, extended}
@@ -177,8 +178,11 @@ clientOf v = getD (v .clients) 0 []
 abbrev pub iaOf : Message → Ia
 iaOf v = getD (v .ias) 0 (record { iaid = 0; t1 = 0; t2 = 0; listed = []; statuses = [] })
 
+abbrev pub askedIn : Message → Ia → Asked
+askedIn v i = record { who = identity (clientOf v) (i .iaid); asks = v .asks; listed = i .listed }
+
 abbrev pub askedBy : Message → Asked
-askedBy v = record { who = identity (clientOf v) (iaOf v .iaid); asks = v .asks; listed = iaOf v .listed }
+askedBy v = askedIn v (iaOf v)
 
 -- what is done about it, once every ended record is dropped
 unfoldable pub serving : Table → Moment → Message → Served
@@ -208,18 +212,28 @@ isSilence (say k) = false
 isSilence success = false
 isSilence silence = true
 
+-- by its length, type and form
+abbrev pub formTests : List ℕ → Message → List (ℕ × Bool)
+formTests m v = (3, wrongSize m) ∷ (4, not (served (v .kind))) ∷ (5, not (wellFormed m)) ∷ []
+
+-- by its IDs
+abbrev pub idTests : Duid → Message → List (ℕ × Bool)
+idTests own v = (6, not (rowHolds own v)) ∷ []
+
+-- by its IA_PDs
+abbrev pub pdTests : Message → List (ℕ × Bool)
+pdTests v = (7, wrongPds v) ∷ []
+
+-- by what would be said
+abbrev pub silenceTests : Verdict → List (ℕ × Bool)
+silenceTests v = (8, isSilence v) ∷ []
+
+-- a message, once the table, the time and the room are good
+abbrev pub messageTests : Table → Moment → List ℕ → Message → List (ℕ × Bool)
+messageTests t now m v = formTests m v ++ (idTests (t .settings .own) v ++ (pdTests v ++ silenceTests (serving t now v .verdict)))
+
 abbrev pub boxTests : Table → Moment → List ℕ → Message → ℕ → List (ℕ × Bool)
-boxTests t now m v room =
-    (9, not (sound t))
-    ∷ (1, badTime (t .last) now)
-    ∷ (2, littleRoom room)
-    ∷ (3, wrongSize m)
-    ∷ (4, not (served (v .kind)))
-    ∷ (5, not (wellFormed m))
-    ∷ (6, not (rowHolds (t .settings .own) v))
-    ∷ (7, wrongPds v)
-    ∷ (8, isSilence (serving t now v .verdict))
-    ∷ []
+boxTests t now m v room = lentTests (sound t) (t .last) now ++ (roomTests room ++ messageTests t now m v)
 
 -- ---------------------------------------------------------------- the operations
 
@@ -242,7 +256,7 @@ boxHandle t now m room = boxRead t now m (read m) room
 
 -- how many records are live
 abbrev pub liveTests : Table → Moment → List (ℕ × Bool)
-liveTests t now = (9, not (sound t)) ∷ (1, badTime (t .last) now) ∷ []
+liveTests t now = lentTests (sound t) (t .last) now
 
 unfoldable pub boxLive : Table → Moment → Res ℕ
 boxLive t now = unless (liveTests t now) (done (length (keep (live now) (t .records))))

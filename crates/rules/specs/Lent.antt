@@ -2,12 +2,12 @@
 --   The word is the refusal's number times 65,536, plus the length of what was written: one of the two is 0.
 use Prim.Native.Nat.{ℕ, _*_}
 use mathlib.Core.Bool.{Bool, cond, not}
-use mathlib.Core.List.{List, [], _∷_}
+use mathlib.Core.List.{List, [], _∷_, _++_}
 use mathlib.Core.Option.{Option, none, some}
 use lib.Dec.{ltb}
 use lib.ListN.{length, getElem?}
 use Rattle.rules.specs.Words.{splice}
-use Rattle.rules.specs.Refusals.{Res, refuse, done, unless, badTime}
+use Rattle.rules.specs.Refusals.{Res, refuse, done, unless, lentTests}
 use Rattle.rules.specs.Clock.{Moment}
 use Rattle.rules.specs.Identity.{Identity}
 use Rattle.rules.specs.Settings.{Settings}
@@ -107,7 +107,7 @@ holdText now none = []
 holdText now (some h) = cond (ltb now (h .end)) (holdBytes h) []
 
 abbrev pub heldTests : Router → Moment → ℕ → List (ℕ × Bool)
-heldTests r now room = (9, not (soundRouter r)) ∷ (1, badTime (r .last) now) ∷ (2, ltb room holdSize) ∷ []
+heldTests r now room = lentTests (soundRouter r) (r .last) now ++ ((2, ltb room holdSize) ∷ [])
 
 abbrev pub routerHeld : Router → Moment → ℕ → Res (List ℕ)
 routerHeld r now room = unless (heldTests r now room) (done (holdText now (r .held)))

@@ -1,6 +1,6 @@
 -- Refusals: what an operation gives, the tests that several operations share, and the order of the numbers at each.
 use Prim.Native.Nat.{ℕ, _^_}
-use mathlib.Core.Bool.{Bool, cond, _||_}
+use mathlib.Core.Bool.{Bool, cond, not, _||_}
 use mathlib.Core.List.{List, [], _∷_}
 use lib.Dec.{leb, ltb}
 use lib.ListN.{length}
@@ -19,9 +19,16 @@ unless (r ∷ rs) x = cond (r .1) (refuse (r .0)) (unless rs x)
 abbrev pub badTime : ℕ → ℕ → Bool
 badTime last now = ltb now last || leb (2 ^ 48) now
 
+-- 9 "the lent table or router state isn't sound", then 1
+abbrev pub lentTests : Bool → ℕ → ℕ → List (ℕ × Bool)
+lentTests isSound last now = (9, not isSound) ∷ (1, badTime last now) ∷ []
+
 -- 2 "the buffer to write in is under 512 bytes"
 abbrev pub littleRoom : ℕ → Bool
 littleRoom room = ltb room 512
+
+abbrev pub roomTests : ℕ → List (ℕ × Bool)
+roomTests room = (2, littleRoom room) ∷ []
 
 -- 3 "the message is under 4 or over 1,232 bytes"
 abbrev pub wrongSize : List ℕ → Bool

@@ -7,12 +7,12 @@
 --   routerStart, routerSend, routerResend, routerAbandon, routerReceive   the operations
 use Prim.Native.Nat.{ℕ, _+_, _-_, _%_, _^_}
 use mathlib.Core.Bool.{Bool, true, false, cond, not, _&&_, _||_}
-use mathlib.Core.List.{List, [], _∷_}
+use mathlib.Core.List.{List, [], _∷_, _++_}
 use mathlib.Core.Option.{Option, none, some}
 use lib.Dec.{eqb, leb, ltb}
 use lib.ListN.{length, getD}
 use Rattle.rules.specs.Words.{all, any, first, sameBytes}
-use Rattle.rules.specs.Refusals.{Res, done, unless, badTime, littleRoom, wrongSize}
+use Rattle.rules.specs.Refusals.{Res, done, unless, lentTests, roomTests, wrongSize}
 use Rattle.rules.specs.Prefix.{prefix, zeroAfter, Lease, lease, leaseEncodable}
 use Rattle.rules.specs.Message.{Listed, Ia, Message, read, wellFormed, print}
 use Rattle.rules.specs.Clock.{Moment, plus, goodEnd}
@@ -303,15 +303,23 @@ routerStart i n now = unless (startTests (goodAsker i n) now) (done record {
   exchange = none;
 })
 
+-- by the open exchange, and by what happened too short a time ago
+abbrev pub timesTests : Router → Moment → List (ℕ × Bool)
+timesTests r now = (11, isOpen (r .exchange)) ∷ (12, tooSoon r now) ∷ []
+
+-- by what an exchange of that kind needs
+abbrev pub kindTests : Kind → Router → Moment → List (ℕ × Bool)
+kindTests k r now = (13, not (allows k r now)) ∷ []
+
+-- "With nothing open both give 13."
+abbrev pub openTests : Router → List (ℕ × Bool)
+openTests r = (13, not (isOpen (r .exchange))) ∷ []
+
+abbrev pub awaitedTests : Router → List ℕ → Message → List (ℕ × Bool)
+awaitedTests r m v = (14, not (awaited r m v (r .exchange))) ∷ []
+
 abbrev pub sendTests : Kind → Router → Moment → ℕ → List (ℕ × Bool)
-sendTests k r now room =
-    (9, not (soundRouter r))
-    ∷ (1, badTime (r .last) now)
-    ∷ (2, littleRoom room)
-    ∷ (11, isOpen (r .exchange))
-    ∷ (12, tooSoon r now)
-    ∷ (13, not (allows k r now))
-    ∷ []
+sendTests k r now room = lentTests (soundRouter r) (r .last) now ++ (roomTests room ++ (timesTests r now ++ kindTests k r now))
 
 -- the state after, and the message of its open exchange
 abbrev pub withQuery : Router → Exchange → Router × List ℕ
@@ -320,9 +328,8 @@ withQuery r x = (r, print (query r x))
 unfoldable pub routerSend : Kind → Router → Moment → ℕ → Res (Router × List ℕ)
 routerSend k r now room = unless (sendTests k r now room) (done (withQuery (begun k r now) (exchangeFor k r now)))
 
--- "With nothing open both give 13."
 abbrev pub resendTests : Router → Moment → ℕ → List (ℕ × Bool)
-resendTests r now room = (9, not (soundRouter r)) ∷ (1, badTime (r .last) now) ∷ (2, littleRoom room) ∷ (13, not (isOpen (r .exchange))) ∷ []
+resendTests r now room = lentTests (soundRouter r) (r .last) now ++ (roomTests room ++ openTests r)
 
 -- the open exchange, and where there is none one that is never used
 abbrev pub openOf : Option Exchange → Exchange
@@ -333,13 +340,13 @@ unfoldable pub routerResend : Router → Moment → ℕ → Res (Router × List 
 routerResend r now room = unless (resendTests r now room) (done (withQuery (again r now (openOf (r .exchange))) (openOf (r .exchange))))
 
 abbrev pub abandonTests : Router → Moment → List (ℕ × Bool)
-abandonTests r now = (9, not (soundRouter r)) ∷ (1, badTime (r .last) now) ∷ (13, not (isOpen (r .exchange))) ∷ []
+abandonTests r now = lentTests (soundRouter r) (r .last) now ++ openTests r
 
 unfoldable pub routerAbandon : Router → Moment → Res Router
 routerAbandon r now = unless (abandonTests r now) (done (closed r now (r .server) (r .held)))
 
 abbrev pub receiveTests : Router → Moment → List ℕ → Message → List (ℕ × Bool)
-receiveTests r now m v = (9, not (soundRouter r)) ∷ (1, badTime (r .last) now) ∷ (14, not (awaited r m v (r .exchange))) ∷ []
+receiveTests r now m v = lentTests (soundRouter r) (r .last) now ++ awaitedTests r m v
 
 abbrev pub routerRead : Router → Moment → List ℕ → Message → Res Router
 routerRead r now m v = unless (receiveTests r now m v) (done (accept r now v (openOf (r .exchange) .kind)))
