@@ -168,8 +168,8 @@ module _ {m : List ℕ} {s : ℕ} (x : Listed) (f : FineListed x) (h : Stands m 
   listed-items-well : Well m (in_prefix m x.lease.prefix.length) 0 (listed_items x)
   unfolding listed_items
   listed-items-well =
-      well-append m _ 0 (except_items x.lease.prefix.length x.lease.except) (map status_item x.statuses)
-      (except-well m x.lease.prefix x.lease.except f.encodes) (statuses-well m _ (λ k p q n. refl) x.statuses)
+      well-append m (in_prefix m x.lease.prefix.length) 0 (except_items x.lease.prefix.length x.lease.except) (map status_item x.statuses)
+      (except-well m x.lease.prefix x.lease.except f.encodes) (statuses-well m (in_prefix m x.lease.prefix.length) (λ k p q n. refl) x.statuses)
 
   pub listed-well : (k p : ℕ) → in_pd m k p 26 s (length (listed_bytes x)) ≡ Good
   unfolding check_prefix
@@ -232,9 +232,9 @@ module _ {m : List ℕ} {s : ℕ} (i : Ia) (f : FineIa i) (h : Stands m s (ia_by
   ia-items-well : Well m (in_pd m) 0 (ia_items i)
   unfolding ia_items
   ia-items-well =
-      well-append m _ 0 (map listed_item i.listed) (map status_item i.statuses)
-      (well-map m listed_bytes _ 26 0 i.listed (every-weaker (λ x g k p q t. listed-well x g t k p) i.listed f.listed))
-      (statuses-well m _ (λ k p q n. refl) i.statuses)
+      well-append m (in_pd m) 0 (map listed_item i.listed) (map status_item i.statuses)
+      (well-map m listed_bytes (in_pd m) 26 0 i.listed (every-weaker (λ x g k p q t. listed-well x g t k p) i.listed f.listed))
+      (statuses-well m (in_pd m) (λ k p q n. refl) i.statuses)
 
   pub ia-well : (k p : ℕ) → in_top m k p 25 s (length (ia_bytes i)) ≡ Good
   unfolding check_pd

@@ -3,7 +3,7 @@
 --   Going            a turn of the filter: what is kept so far, and what will be kept of the rest, is the result
 --   rows_dropped     the rows of what is left
 use Rattle.std.specs.Prelude.{◌≡◌, refl, Bool, true, false, cond, List, [], ◌∷◌, ◌++◌, ℕ, zero, suc, ◌+◌, ◌-◌, ◌*◌, ◌≤◌, ◌<◌, length, take, drop, replicate}
-use Rattle.std.proofs.Common.{sym, ◌∙◌, append_assoc, append-nil, add-zero, zero-add, arith, length-append, length-take-le}
+use Rattle.std.proofs.Common.{sym, ap, ◌∙◌, append_assoc, append-nil, add-zero, zero-add, arith, length-append, length-take-le}
 use Rattle.std.proofs.Math.Nat.{sub-zero}
 use Rattle.std.proofs.lemmas.List.{length-replicate}
 use Rattle.rules.specs.Words.{cons_if, keep, each, from, part, splice}
@@ -119,7 +119,7 @@ rows-each h u i (one_more {e} {es} s r) q =
     let a : (h ++ e) ++ (each es ++ u) ≡ h ++ ((e ++ each es) ++ u) = simp append_assoc in
     let x : part (place i) record_size (h ++ ((e ++ each es) ++ u)) ≡ e = rw (← a, append_assoc) (part-mid (place i) record_size h e (each es ++ u) q s) in
     let y : rows ((h ++ e) ++ (each es ++ u)) (i + 1) (length es) ≡ es = rows-each (h ++ e) u (i + 1) r (rw length-append (omega arith)) in
-    rw (x, ← a, y)
+    rw x (ap (λ (r : List (List ℕ)). e ∷ r) (ap (λ (l : List ℕ). from (row_at l) (i + 1) (length es)) (sym a) ∙ y))
 
 module _ (f : List ℕ → Bool) (n : ℕ) (l : List ℕ) (h : n ≤ 256) (room : table_size ≤ length l) where
   abbrev rest : List ℕ

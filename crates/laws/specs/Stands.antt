@@ -102,7 +102,7 @@ area_of_lem {m} {at} [] {e} h q = area-at m at e {st = End} (simp (le-leb e at (
 area_of_lem {m} {at} (item c s ∷ r) {e} h q =
     let k = stands-option c s (printed r) h in
     let l : e ≡ at + 4 + length s + length (printed r) = q ∙ omega (arith, length-append (option c s) (printed r), option-length c s) in
-    area-at m at e (step_of k (omega arith)) ∙ ap (opt at c (at + 4) (length s)) (area_of_lem r k.next l)
+    area-at m at e (step_of k (omega arith)) ∙ ap (opt at c (at + 4) (length s)) (area_of_lem {at = at + 4 + length s} r k.next l)
 
 -- ---------------------------------------------------------------- the contents of a code
 
@@ -160,7 +160,7 @@ unfolding printed placed options bytes_of
 match w [] h = tt
 match {m} {at} w (item c s ∷ r) h =
     let k = stands-option c s (printed r) h in
-    match-if (eqb c w) m (At at (at + 4) (length s)) s (options w (placed (at + 4 + length s) r)) (bytes_of w r) (k.here, refl) (match w r k.next)
+    match-if (eqb c w) m (At at (at + 4) (length s)) s (options w (placed (at + 4 + length s) r)) (bytes_of w r) (k.here, refl) (match {at = at + 4 + length s} w r k.next)
 
 -- ---------------------------------------------------------------- well formed
 
@@ -178,7 +178,7 @@ well own k [] g h = refl
 well {m} {at} own k (item c s ∷ r) g h =
     let j = cond (eqb c 67) (k + 1) k in
     let t = stands-option c s (printed r) h in
-    ap (λ (x : Checked). and_then x (scan own j (placed (at + 4 + length s) r))) (g.0 at (at + 4) t.here) ∙ well own j r g.1 t.next
+    ap (λ (x : Checked). and_then x (scan own j (placed (at + 4 + length s) r))) (g.0 at (at + 4) t.here) ∙ well {at = at + 4 + length s} own j r g.1 t.next
 
 -- options one after the other, where the later ones are good after any number of PD Excludes
 pub well-append : (m : List ℕ) (own : ℕ → ℕ → ℕ → ℕ → ℕ → Checked) (k : ℕ) (xs ys : List Item)
