@@ -1,4 +1,6 @@
 // Whether a message is the one that a router's open exchange awaits. Nothing is written here.
+#![tactic(auto)]
+
 ghost use Rattle.std.specs.Prelude.{◌≡◌, true, not, ◌&&◌, ◌||◌, ◌+◌, ◌≤◌, length};
 ghost use Rattle.rules.specs.Words.{all, any, part, same_bytes};
 ghost use Rattle.rules.specs.Refusals.{wrong_size};

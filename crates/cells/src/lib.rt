@@ -1,4 +1,6 @@
 // Bytes in a lent slice: numbers, copies, comparisons. Each write leaves the slice with one part put in.
+#![tactic(auto)]
+
 mod words; // words.rt: the same by whole words and blocks
 
 ghost use Rattle.std.specs.Prelude.{◌≡◌, ◌+◌, ◌-◌, ◌*◌, ◌≤◌, ◌<◌, ◌^◌, eqb, length, replicate};

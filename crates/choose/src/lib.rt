@@ -1,4 +1,6 @@
 // Choosing a prefix for a new binding.
+#![tactic(auto)]
+
 pub mod hint; // hint.rt: the length that a hint wants, and whether its prefix can be had
 pub mod walk; // walk.rt: the lowest free place of one length, and of the shortest length that has one
 

@@ -1,4 +1,6 @@
 // Lifetimes (seconds remaining) and moments of the clock. Only a lifetime added to a moment gives a moment.
+#![tactic(auto)]
+
 ghost use Rattle.std.specs.Prelude.{◌≡◌, ◌<◌, ◌^◌, max, ltb};
 ghost use Rattle.rules.specs.Clock.{plus, extended};
 

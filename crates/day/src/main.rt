@@ -5,6 +5,8 @@
 //     TIME MESSAGE                                            a message, in hexadecimal
 //     TIME MESSAGE 511                                        the same, in a room of 511 bytes instead of 512
 //     fill TIME COUNT PLACE MESSAGE                           the message COUNT times, with the turn's number at PLACE
+#![tactic(auto)]
+
 mod steps; // steps.rt: what a line asks for, done
 mod words; // words.rt: the words of a line, as numbers and bytes
 

@@ -1,4 +1,6 @@
 // Deciding about one IA_PD over the records of a table. Nothing is written here.
+#![tactic(auto)]
+
 ghost use Rattle.std.specs.Prelude.{◌≡◌, true, false, ℕ, ◌≤◌, ◌<◌, ◌^◌, length};
 ghost use Rattle.rules.specs.Clock.{extended};
 ghost use Rattle.rules.specs.Identity.{identity};

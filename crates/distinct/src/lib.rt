@@ -1,4 +1,6 @@
 // Whether it is plain at a first look that no two numbers are the same: a cheap answer that is nearly always yes.
+#![tactic(auto)]
+
 ghost use Rattle.std.specs.Prelude.{◌≡◌, true, ◌+◌, ◌≤◌, ◌<◌, length};
 ghost use Rattle.distinct.specs.Distinct.{at, Distinct, Free};
 

@@ -1,4 +1,6 @@
 // One record's fields, read in place.
+#![tactic(auto)]
+
 ghost use Rattle.std.specs.Prelude.{◌≡◌, ◌+◌, ◌*◌, ◌≤◌, ◌<◌, ◌^◌, length};
 ghost use Rattle.rules.specs.Words.{part, same_bytes};
 ghost use Rattle.rules.specs.Prefix.{prefix};

@@ -1,4 +1,6 @@
 // The C interface: each operation on an array of its exact size, with no other requirement.
+#![tactic(auto)]
+
 ghost use Rattle.std.specs.Prelude.{◌≡◌, []};
 ghost use Rattle.rules.specs.Identity.{identity};
 ghost use Rattle.rules.specs.Lent.{ended, box_started, box_handled, box_counted, box_shown, router_started, router_sent, router_resent, router_abandoned, router_received, router_shown};

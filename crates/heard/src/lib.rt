@@ -1,4 +1,6 @@
 // What both sides ask of a message that they got.
+#![tactic(auto)]
+
 ghost use Rattle.std.specs.Prelude.{◌≡◌, true, false, ◌+◌, ◌≤◌, ◌<◌, map, ltb, length};
 ghost use Rattle.rules.specs.Words.{part, same_bytes};
 ghost use Rattle.rules.specs.Message.{ia_at, read, well_formed};

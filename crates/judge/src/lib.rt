@@ -1,4 +1,6 @@
 // The box's judgement of a message. Nothing is written here.
+#![tactic(auto)]
+
 ghost use Rattle.std.specs.Prelude.{◌≡◌, ◌<◌, true};
 ghost use Rattle.rules.specs.Message.{read};
 ghost use Rattle.rules.specs.TableBytes.{table_of, sound_bytes};

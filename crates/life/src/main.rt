@@ -1,5 +1,7 @@
 // A router's life against the box, and the boundaries of times, DUIDs and lengths: each step is a line. What the lines must be
 // was worked out from document 01.
+#![tactic(auto)]
+
 mod ends; // ends.rt: the two ends, each operation with its line
 mod newcomers; // newcomers.rt: DUIDs of 2, 3, 130 and 131 bytes, and the ends of what is held
 mod speak; // speak.rt: the lines

@@ -1,4 +1,6 @@
 // The listed prefixes of an IA_PD: what is asked of them all, and how they are returned.
+#![tactic(auto)]
+
 ghost use Rattle.std.specs.Prelude.{◌≡◌, true, not, ◌&&◌, [], ◌∷◌, map, ◌≤◌, ltb};
 ghost use Rattle.rules.specs.Words.{all, any};
 ghost use Rattle.rules.specs.Prefix.{zero_after, same_prefix, inside, except_for};

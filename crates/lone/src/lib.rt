@@ -1,4 +1,6 @@
 // Public readers: a whole message, or one option that stands alone and fills its text. Each is total, and answers a value of its own.
+#![tactic(auto)]
+
 ghost use Rattle.std.specs.Prelude.{◌≡◌, true, length};
 ghost use Rattle.rules.specs.Words.{num};
 ghost use Rattle.rules.specs.Refusals.{wrong_size};

@@ -1,4 +1,6 @@
 // What one walk over a message notes for every question that is asked of it.
+#![tactic(auto)]
+
 ghost use Rattle.std.specs.Prelude.{◌≡◌, true, false, ◌&&◌, ◌||◌, ◌+◌, ◌≤◌, ◌<◌, ◌^◌, eqb, length};
 ghost use Rattle.rules.specs.Words.{part};
 ghost use Rattle.rules.specs.Refusals.{wrong_size};

@@ -1,4 +1,5 @@
 // What is to be done about one IA_PD: decided first, then carried out and answered.
+#![tactic(auto)]
 
 // A delegation by the upper 64 bits of its prefix and its length, and whether its last /64 is excluded.
 #[derive(Drop)]

@@ -1,4 +1,6 @@
 // Messages written into lent bytes. Each writer puts its bytes in at a place and gives the place after them.
+#![tactic(auto)]
+
 pub mod able; // able.rt: which values have an encoding
 pub mod lone; // lone.rt: one option that stands alone, of any values and into any room
 pub mod message; // message.rt: whole messages

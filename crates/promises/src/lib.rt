@@ -1,1 +1,2 @@
 // The promises: theorems over the rules, in specs/. There is no code here.
+#![tactic(auto)]

@@ -1,4 +1,6 @@
 // The router receives: a message is judged, and the one awaited closes the exchange.
+#![tactic(auto)]
+
 ghost use Rattle.std.specs.Prelude.{◌≡◌, true, [], ◌<◌, ◌^◌};
 ghost use Rattle.rules.specs.Words.{first};
 ghost use Rattle.rules.specs.Clock.{plus};

@@ -1,4 +1,5 @@
 // The rules: definitions alone, in specs/. What stands here are the types that the definitions share with the code.
+#![tactic(auto)]
 
 // Where an option area lies: the message's own, inside an IA_PD, or inside an IA Prefix of that length.
 #[derive(Drop)]

@@ -1,4 +1,6 @@
 // What is said of an IA_PD: the one that stands in the answer.
+#![tactic(auto)]
+
 ghost use Rattle.std.specs.Prelude.{◌≡◌, cond, [], ◌∷◌, map, ◌≤◌, ◌<◌};
 ghost use Rattle.rules.specs.Words.{cons_if};
 ghost use Rattle.rules.specs.Box.{t1_for, t2_for, offered, others, returned, ia_for};

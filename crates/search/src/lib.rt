@@ -1,4 +1,6 @@
 // Reading the lent table: records, and searches among the first n. Nothing is written here.
+#![tactic(auto)]
+
 ghost use Rattle.std.specs.Prelude.{◌≡◌, ◌+◌, ◌*◌, ◌≤◌, ◌<◌, length};
 ghost use Rattle.rules.specs.Words.{keep, from};
 ghost use Rattle.rules.specs.Identity.{identity};

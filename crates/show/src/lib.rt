@@ -1,4 +1,6 @@
 // What a program prints: text, numbers in decimal, and bytes in hexadecimal.
+#![tactic(auto)]
+
 use libc::STDOUT_FILENO;
 
 pub fn say(text: &[u8]) {

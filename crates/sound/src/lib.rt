@@ -1,4 +1,6 @@
 // Whether lent bytes are a sound table. Every function reads only.
+#![tactic(auto)]
+
 ghost use Rattle.std.specs.Prelude.{◌≡◌, ◌+◌, ◌-◌, ◌≤◌, ◌<◌, true, false, [], length};
 ghost use Rattle.rules.specs.Words.{all, no_two, from, num_at};
 ghost use Rattle.rules.specs.Table.{may_stand};

@@ -1,4 +1,6 @@
 // A router's state in its 384 lent bytes: whether it is sound, what is refused by it, and its changes.
+#![tactic(auto)]
+
 pub mod change; // change.rt: starting, sending, receiving
 pub mod hold; // hold.rt: what is held, in its bytes
 pub mod judge; // judge.rt: what is refused by the state and the time

@@ -1,4 +1,5 @@
 // The parts of a message in code, as its readers give them and its writers take them.
+#![tactic(auto)]
 
 // An IA Prefix without its statuses; where cut is 0 it has no excluded prefix.
 #[derive(Drop)]

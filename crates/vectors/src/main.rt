@@ -1,4 +1,6 @@
 // Runs the marked examples of single options, and the boundaries of lengths, with the proved code, and prints what came out.
+#![tactic(auto)]
+
 use libc::STDOUT_FILENO;
 use lone::{IdRead, MessageRead};
 use show::{say, say_hex, say_number};

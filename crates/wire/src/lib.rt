@@ -1,4 +1,6 @@
 // Options on the wire: the walk over an option area, what is malformed, and what stands in a message.
+#![tactic(auto)]
+
 pub mod walk; // one step of the walk, and the numbers at a place
 pub mod find; // how many options of a code an area has, the k-th, and the Client ID's stretch
 pub mod says; // whether an option says what is looked for
