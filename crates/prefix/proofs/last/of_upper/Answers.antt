@@ -1,0 +1,7 @@
+use Rattle.std.proofs.Common.{ap, ◌∙◌}
+use Rattle.rules.specs.Words.{num}
+use Rattle.laws.specs.Last.{upper-bytes}
+use Rattle.prefix.proofs.last.of_upper.Goals as goal
+
+pub returns : goal.returns
+returns c = ap num c.put.ensures ∙ upper-bytes _ c.ranges.p.fits
