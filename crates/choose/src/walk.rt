@@ -10,14 +10,14 @@ ghost use Rattle.prefix.specs.Upper.{upper};
 ghost use Rattle.choose.specs.Choice.{spot_of, choice_of, chooser, Walkable};
 
 // The lowest free place of one length, by the upper half of its bits.
-#[derive(Drop)]
+#[derive(Clone, Copy)]
 pub enum Spot {
     Free(u64),
     Full,
 }
 
 // A prefix with its length, or none.
-#[derive(Drop)]
+#[derive(Clone, Copy)]
 pub enum Choice {
     Chosen { prefix: u64, length: u64 },
     Nothing,

@@ -5,11 +5,11 @@ ghost use Rattle.std.specs.Prelude.{◌≡◌, ◌<◌, ◌^◌, max, ltb};
 ghost use Rattle.rules.specs.Clock.{plus, extended};
 
 // Seconds; all ones is for ever.
-#[derive(Drop)]
+#[derive(Clone, Copy)]
 pub struct Lifetime(pub u32);
 
 // Seconds of the clock; all ones is never.
-#[derive(Drop)]
+#[derive(Clone, Copy)]
 pub struct Moment(pub u64);
 
 impl Moment {

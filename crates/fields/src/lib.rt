@@ -8,7 +8,7 @@ ghost use Rattle.rules.specs.Table.{area, live};
 ghost use Rattle.rules.specs.TableBytes.{table_size, record_at};
 
 // A prefix by the upper half of its bits.
-#[derive(Drop)]
+#[derive(Clone, Copy)]
 pub struct Area {
     pub upper: u64,
     pub length: u64,

@@ -21,7 +21,7 @@ use wire::find::{count_of, find};
 use wire::walk::{step_at, u8_at};
 
 // The IA_PD of a message, unless its IA_PDs are wrong.
-#[derive(Drop)]
+#[derive(Clone, Copy)]
 pub struct Question {
     pub wrong: bool,
     pub pd: Pd,
@@ -63,7 +63,7 @@ pub fn only(msg: &[u8], code: usize) -> Found
 }
 
 // The first `count` of five IA Prefixes.
-#[derive(Drop)]
+#[derive(Clone, Copy)]
 struct Prefixes {
     count: usize,
     prefixes: [IaPrefix; 5],

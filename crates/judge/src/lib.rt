@@ -15,7 +15,7 @@ use rules::Kind;
 use values::Pd;
 
 // The number of a refusal, or 0 and the IA_PD that a message asks about.
-#[derive(Drop)]
+#[derive(Clone, Copy)]
 pub struct Judgement {
     pub refusal: u64,
     pub pd: Pd,

@@ -11,7 +11,7 @@ ghost use Rattle.values.specs.Values.{listed_of, first_listed};
 use values::IaPrefix;
 
 // At most five IA Prefixes: the first `count` of the array.
-#[derive(Drop)]
+#[derive(Clone, Copy)]
 pub struct Listing {
     pub count: usize,
     pub prefixes: [IaPrefix; 5],

@@ -17,28 +17,28 @@ use wire::walk::{u8_at, u16_at};
 // ---------------------------------------------------------------- what is answered
 
 // A Client ID or Server ID: its DUID, as that stretch of the text.
-#[derive(Drop)]
+#[derive(Clone, Copy)]
 pub enum IdRead {
     Refused(u8),
     Duid { start: usize, len: usize },
 }
 
 // An Option Request: whether code 67 is in it.
-#[derive(Drop)]
+#[derive(Clone, Copy)]
 pub enum RequestRead {
     Refused(u8),
     Asks(bool),
 }
 
 // A Status Code: the code.
-#[derive(Drop)]
+#[derive(Clone, Copy)]
 pub enum StatusRead {
     Refused(u8),
     Code(usize),
 }
 
 // A PD Exclude: the excluded prefix, where the refusal is 0.
-#[derive(Drop)]
+#[derive(Clone, Copy)]
 pub struct ExcludeRead {
     pub refusal: u8,
     pub length: usize,
@@ -46,14 +46,14 @@ pub struct ExcludeRead {
 }
 
 // An IA Prefix, where the refusal is 0.
-#[derive(Drop)]
+#[derive(Clone, Copy)]
 pub struct PrefixRead {
     pub refusal: u8,
     pub prefix: IaPrefix,
 }
 
 // An IA_PD: its numbers, how many IA Prefixes it has, and where the first is.
-#[derive(Drop)]
+#[derive(Clone, Copy)]
 pub enum PdRead {
     Refused(u8),
     Pd {
@@ -66,7 +66,7 @@ pub enum PdRead {
 }
 
 // A message: its type and number, how many Client IDs, Server IDs and IA_PDs it has, and where the first of each is.
-#[derive(Drop)]
+#[derive(Clone, Copy)]
 pub enum MessageRead {
     Refused(u8),
     Message {

@@ -16,7 +16,7 @@ use wire::says::asks67;
 use wire::walk::step_at;
 
 // The options of one code in the message's own area: how many, and where the first is.
-#[derive(Drop)]
+#[derive(Clone, Copy)]
 pub struct Note {
     pub count: usize,
     pub first: Found,
@@ -24,7 +24,7 @@ pub struct Note {
 
 // A message's Client IDs, Server IDs and IA_PDs, whether an Option Request has code 67, and whether the message is well formed:
 // where it isn't, the rest says nothing.
-#[derive(Drop)]
+#[derive(Clone, Copy)]
 pub struct Notes {
     pub formed: bool,
     pub client: Note,

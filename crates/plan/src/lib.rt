@@ -2,14 +2,14 @@
 #![tactic(auto)]
 
 // A delegation by the upper 64 bits of its prefix and its length, and whether its last /64 is excluded.
-#[derive(Drop)]
+#[derive(Clone, Copy)]
 pub struct Delegation {
     pub prefix: u64,
     pub length: u64,
     pub excluded: bool,
 }
 
-#[derive(Drop)]
+#[derive(Clone, Copy)]
 pub enum Plan {
     // The delegation is offered.
     Offer(Delegation),

@@ -14,7 +14,7 @@ use values::Pd;
 
 // What a message says beside its DUIDs and its IA_PD: the type, the number, whether it has a Server ID, whether it asks
 // for PD Exclude, whether it says a status, and which, and whether it has an IA_PD.
-#[derive(Drop)]
+#[derive(Clone, Copy)]
 pub struct Head {
     pub kind: u8,
     pub number: u32,

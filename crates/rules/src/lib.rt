@@ -2,7 +2,7 @@
 #![tactic(auto)]
 
 // Where an option area lies: the message's own, inside an IA_PD, or inside an IA Prefix of that length.
-#[derive(Drop)]
+#[derive(Clone, Copy)]
 pub enum Level {
     Top,
     InPd,
@@ -10,7 +10,7 @@ pub enum Level {
 }
 
 // What stands at a place of an option area: an option, nothing more, or bytes that are no option, with their place.
-#[derive(Drop)]
+#[derive(Clone, Copy)]
 pub enum Step {
     Opt {
         code: usize,
@@ -23,14 +23,14 @@ pub enum Step {
 }
 
 // Whether an option area is well formed, or the place of the first bad option or leftover byte.
-#[derive(Drop)]
+#[derive(Clone, Copy)]
 pub enum Checked {
     Good,
     Broken(usize),
 }
 
 // An option that was looked for: its place, and the start and length of its content.
-#[derive(Drop)]
+#[derive(Clone, Copy)]
 pub enum Found {
     At {
         place: usize,
@@ -41,7 +41,7 @@ pub enum Found {
 }
 
 // The kinds of message that the box serves.
-#[derive(Drop)]
+#[derive(Clone, Copy)]
 pub enum Kind {
     Solicit,
     Request,

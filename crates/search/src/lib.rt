@@ -12,7 +12,7 @@ ghost use Rattle.prefix.specs.Upper.{upper};
 ghost use Rattle.search.specs.Binding.{binding_of, place_of};
 
 // A record of the table by value: the first `len` bytes are its DUID.
-#[derive(Drop)]
+#[derive(Clone, Copy)]
 pub struct Binding {
     pub duid: [u8; 130],
     pub len: usize,
@@ -24,7 +24,7 @@ pub struct Binding {
 }
 
 // Where something stands among the records.
-#[derive(Drop)]
+#[derive(Clone, Copy)]
 pub enum Place {
     At(usize),
     Nothing,

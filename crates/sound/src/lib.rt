@@ -10,7 +10,7 @@ ghost use Rattle.ranks.specs.Rank.{NoneShorter, clear};
 ghost use Rattle.sound.specs.Setup.{setup_of, Agrees};
 
 // The numbers of the box's settings: the pool by its upper half and its length P, then S and D. The own DUID stays in the table.
-#[derive(Drop)]
+#[derive(Clone, Copy)]
 pub struct Setup {
     pub pool: u64,
     pub width: u64,

@@ -22,11 +22,11 @@ module _ (b : List ℕ) (now : ℕ) where
       by false e = refl
 
   module _ {x : Bool} (sd : x ≡ sound_router_bytes b) where
-    pub state-9 : not x ≡ true → 9 ≡ by_state b now
+    pub state-9 : x ≡ false → 9 ≡ by_state b now
     unfolding by_state
     state-9 h = rw (← sd, h)
 
-    module _ (s : not x ≡ false) {last : ℕ} (la : last ≡ num_at b 0 8) where
+    module _ (s : x ≡ true) {last : ℕ} (la : last ≡ num_at b 0 8) where
       timed : {y : Bool} → ltb now last || leb (2 ^ 48) now ≡ y → bad_time (router_of b).last now ≡ y
       unfolding router_of
       timed h = ap (λ x. bad_time x now) (sym la) ∙ h

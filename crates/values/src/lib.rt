@@ -2,7 +2,7 @@
 #![tactic(auto)]
 
 // An IA Prefix without its statuses; where cut is 0 it has no excluded prefix.
-#[derive(Drop)]
+#[derive(Clone, Copy)]
 pub struct IaPrefix {
     pub preferred: u32,
     pub valid: u32,
@@ -13,7 +13,7 @@ pub struct IaPrefix {
 }
 
 // An IA_PD with the first `count` of the prefixes, and with the status where it says one.
-#[derive(Drop)]
+#[derive(Clone, Copy)]
 pub struct Pd {
     pub iaid: u32,
     pub t1: u32,

@@ -15,7 +15,7 @@ use rules::Found;
 use values::IaPrefix;
 
 // An excluded prefix and its length, or 0 for none.
-#[derive(Drop)]
+#[derive(Clone, Copy)]
 pub struct Cut {
     pub cut: usize,
     pub out: [u8; 16],

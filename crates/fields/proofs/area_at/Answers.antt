@@ -1,0 +1,5 @@
+use Rattle.laws.specs.Records.{read-area}
+use Rattle.fields.proofs.area_at.Goals as goal
+
+pub returns : goal.returns
+returns c = read-area _ _ c.get-upper.ensures.0 c.get-length.ensures.0

@@ -1,0 +1,14 @@
+use Rattle.std.proofs.Common.{◌≡◌, ◌-◌, ◌≤◌}
+use Rattle.rules.specs.Words.{any}
+use Rattle.rules.specs.Prefix.{same_prefix}
+use Rattle.prefix.specs.Upper.{upper}
+use Rattle.values.specs.Values.{first_listed}
+use Rattle.values.specs.Listed.{rest_listed}
+use Rattle.listed.proofs.some_is.Given as goal
+
+-- What all give is what those that are left give.
+abbrev pub invariant-loop-i : goal.invariant-loop-i
+invariant-loop-i l = (l.i ≤ l.n) × (any (λ x. same_prefix x.lease.prefix (upper l.p l.a)) (first_listed l.n l.ps) ≡ any (λ x. same_prefix x.lease.prefix (upper l.p l.a)) (rest_listed l.i l.n l.ps))
+
+abbrev pub decreases-loop-i : goal.decreases-loop-i
+decreases-loop-i l = l.n - l.i

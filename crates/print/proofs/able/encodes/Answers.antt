@@ -1,0 +1,10 @@
+use Rattle.std.proofs.Common.{◌<◌, ◌^◌}
+use borrow.Author.Rules.{rules}
+use Rattle.print.proofs.Alone.{listed-encodes}
+use Rattle.print.proofs.able.encodes.Goals as goal
+
+pub returns : goal.returns
+returns c = 
+    let preferred : c.args.x.preferred < 2 ^ 32 = search rules in
+    let valid : c.args.x.valid < 2 ^ 32 = search rules in
+    rw (c.fits2?!.ensures, c.encodable.ensures) (listed-encodes _ preferred valid)

@@ -1,0 +1,6 @@
+use Rattle.laws.specs.RouterFlat.{flat_router, flat-router}
+use Rattle.state.proofs.sound.Goals as goal
+
+pub returns : goal.returns
+unfolding flat_router
+returns c = cc (flat-router c.args.t.now (λ i. (c.type_inv.t i).fits) c.requires)

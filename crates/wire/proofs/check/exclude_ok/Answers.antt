@@ -1,0 +1,11 @@
+use Rattle.std.proofs.Common.{◌∙◌, arith, le-ltb}
+use borrow.Author.Rules.{rules}
+use Rattle.wire.proofs.Laws.{tail-ok}
+use Rattle.wire.proofs.check.exclude_ok.Goals as goal
+
+-- The content after its first byte is a part of the message.
+pub returns-then-len-eq0 : goal.returns-then-len-eq0
+returns-then-len-eq0 c = simp (le-ltb 0 c.args.len (omega arith))
+
+pub returns : goal.returns
+returns c = let a = c.args in c.content_ok.ensures ∙ tail-ok a.msg.now a.a a.start a.len (search rules) c.u8_at-b.ensures.0
