@@ -86,11 +86,11 @@ module _ (n i : ℕ) (xs : List IaPrefix) (h : n ≤ length xs) where
   encodes-turn : {b : Bool} → i < n → b ≡ listed_encodes (listed_of (get_or xs i blank) []) → rest_encodes i n xs ≡ b && rest_encodes (i + 1) n xs
   encodes-turn l e = rw (first-turn n i xs h l, e)
 
-  pub encodes-stop : {b : Bool} → i < n → b ≡ listed_encodes (listed_of (get_or xs i blank) []) → not b ≡ true → rest_encodes i n xs ≡ false
-  encodes-stop {b} l e t = encodes-turn l e ∙ rw (not-true b t)
+  pub encodes-stop : {b : Bool} → i < n → b ≡ listed_encodes (listed_of (get_or xs i blank) []) → b ≡ false → rest_encodes i n xs ≡ false
+  encodes-stop {b} l e t = encodes-turn l e ∙ rw t
 
-  pub encodes-go : {b : Bool} → i < n → b ≡ listed_encodes (listed_of (get_or xs i blank) []) → not b ≡ false → rest_encodes i n xs ≡ rest_encodes (i + 1) n xs
-  encodes-go {b} l e t = encodes-turn l e ∙ rw (not-false b t)
+  pub encodes-go : {b : Bool} → i < n → b ≡ listed_encodes (listed_of (get_or xs i blank) []) → b ≡ true → rest_encodes i n xs ≡ rest_encodes (i + 1) n xs
+  encodes-go {b} l e t = encodes-turn l e ∙ rw t
 
   pub encodes-end : n ≤ i → rest_encodes i n xs ≡ true
   encodes-end l = rw (first-end n i xs h l)

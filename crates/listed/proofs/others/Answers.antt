@@ -16,20 +16,16 @@ loop-i-init c = (omega arith, omega arith, search rules, refl)
 pub loop-i-preserved : goal.loop-i-preserved
 loop-i-preserved c = 
     let long : c.args.n ≤ length c.args.ps = let l : length c.args.ps ≡ 5 = search rules in omega (arith, c.requires) in
-    let l = c.loop-i in
-    let t = c.loop-i-test.true in
-    let e = c.is_prefix.ensures in
     ⊎_elim
-    (λ w. (omega arith, omega arith, ap length w.2 ∙ simp length-set l.invariant.2, other-put _ _ _ long _ _ _ l.invariant.3 _ t (omega arith) w.2 w.3 (sym e ∙ not-true _ w.0.taken) w.1.ensures))
-    (λ w. (omega arith, omega arith, ap length w.1 ∙ l.invariant.2, other-skip _ _ _ long _ _ _ l.invariant.3 t w.1 w.2 (sym e ∙ not-false _ w.0.left)))
+    (λ w. (omega arith, omega arith, ap length w.2 ∙ simp length-set c.loop-i.invariant.2, other-put _ _ _ long _ _ _ c.loop-i.invariant.3 _ c.loop-i-test.true (omega arith) w.2 w.3 (sym c.is_prefix.ensures ∙ not-true _ w.0.taken) w.1.ensures))
+    (λ w. (omega arith, omega arith, ap length w.1 ∙ c.loop-i.invariant.2, other-skip _ _ _ long _ _ _ c.loop-i.invariant.3 c.loop-i-test.true w.1 w.2 (sym c.is_prefix.ensures ∙ not-false _ w.0.left)))
     c.if-not-is_prefix.branch
 
 pub returns : goal.returns
 returns c = 
     let long : c.args.n ≤ length c.args.ps = let l : length c.args.ps ≡ 5 = search rules in omega (arith, c.requires) in
-    let s = c.args in
-    let l = c.loop-i in (
-      others-done l.i s.n s.t2 long (upper s.p s.a) l.k l.out l.invariant.3 c.loop-i-test.false
-          ∙ put_next 0 s.t2 s.first (search rules) (others (upper s.p s.a) (first_listed s.n s.t2)) refl,
+    (
+      others-done c.loop-i.i c.args.n c.args.ps long (upper c.args.p c.args.a) c.loop-i.k c.loop-i.out c.loop-i.invariant.3 c.loop-i-test.false
+          ∙ put_next 0 c.args.ps c.args.first (search rules) (others (upper c.args.p c.args.a) (first_listed c.args.n c.args.ps)) refl,
       search rules,
     )

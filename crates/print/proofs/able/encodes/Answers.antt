@@ -7,4 +7,4 @@ pub returns : goal.returns
 returns c = 
     let preferred : c.args.x.preferred < 2 ^ 32 = search rules in
     let valid : c.args.x.valid < 2 ^ 32 = search rules in
-    rw (c.fits2?!.ensures, c.encodable.ensures) (listed-encodes _ preferred valid)
+    rw (c.fits.ensures, c.encodable.ensures) (listed-encodes _ preferred valid)

@@ -1,10 +1,9 @@
 use Rattle.std.proofs.Common.{lt-ltb, le-ltb}
 use borrow.Author.Rules.{rules}
-use Rattle.std.proofs.lemmas.Bool.{not-false}
 use Rattle.print.proofs.lone.refusal.Goals as goal
 
 pub returns-then-room-size : goal.returns-then-room-size
-returns-then-room-size c = (rw (not-false c.args.able c.if-not-able.false, lt-ltb _ _ c.if-room-size.true), search rules)
+returns-then-room-size c = (rw (c.if-not-able.false, lt-ltb _ _ c.if-room-size.true), search rules)
 
 pub returns : goal.returns
-returns c = (rw (not-false c.args.able c.if-not-able.false, le-ltb _ _ c.if-room-size.false), search rules)
+returns c = (rw (c.if-not-able.false, le-ltb _ _ c.if-room-size.false), search rules)

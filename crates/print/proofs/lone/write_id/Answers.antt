@@ -8,20 +8,17 @@ use Rattle.print.proofs.lone.write_id.Goals as goal
 pub returns-then-n-ne0 : goal.returns-then-n-ne0
 unfolding write_id
 returns-then-n-ne0 c = 
-    let judge : let a = c.args in Judged true a.code a.duid.now a.out.now c.refusal-n.result = let a = c.args in
-    judged a.code a.duid.now a.out.now refl (sym (option-length a.code a.duid.now)) c.refusal-n.ensures.0 in
+    let judge : Judged true c.args.code c.args.duid.now c.args.out.now c.refusal-n.result = judged c.args.code c.args.duid.now c.args.out.now refl (sym (option-length c.args.code c.args.duid.now)) c.refusal-n.ensures.0 in
     lone-refused judge c.if-n-ne0.true
 
 pub put_option-requires : goal.put_option-requires
 put_option-requires c = 
-    let judge : let a = c.args in Judged true a.code a.duid.now a.out.now c.refusal-n.result = let a = c.args in
-    judged a.code a.duid.now a.out.now refl (sym (option-length a.code a.duid.now)) c.refusal-n.ensures.0 in
+    let judge : Judged true c.args.code c.args.duid.now c.args.out.now c.refusal-n.result = judged c.args.code c.args.duid.now c.args.out.now refl (sym (option-length c.args.code c.args.duid.now)) c.refusal-n.ensures.0 in
     let a = lone-able judge c.if-n-ne0.false in search rules
 
 pub returns : goal.returns
 unfolding write_id
 returns c = 
-    let judge : let a = c.args in Judged true a.code a.duid.now a.out.now c.refusal-n.result = let a = c.args in
-    judged a.code a.duid.now a.out.now refl (sym (option-length a.code a.duid.now)) c.refusal-n.ensures.0 in
+    let judge : Judged true c.args.code c.args.duid.now c.args.out.now c.refusal-n.result = judged c.args.code c.args.duid.now c.args.out.now refl (sym (option-length c.args.code c.args.duid.now)) c.refusal-n.ensures.0 in
     lone-written judge c.if-n-ne0.false
     c.put_option.ensures

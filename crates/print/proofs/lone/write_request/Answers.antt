@@ -15,7 +15,7 @@ returns-then-n-ne0 c =
     lone-refused judge c.if-n-ne0.true
 
 pub put_asks-requires : goal.put_asks-requires
-unfolding option option
+unfolding option
 put_asks-requires c = 
     let judge : Judged true 6 (be16 67) c.args.out.now c.refusal-n.result = judged 6 (be16 67) c.args.out.now refl refl c.refusal-n.ensures.0 in
     let a = lone-able judge c.if-n-ne0.false in

@@ -6,8 +6,7 @@ use Rattle.print.proofs.message.put_server.Goals as goal
 
 -- The Server ID, or nothing.
 pub put_option-requires : goal.put_option-requires
-put_option-requires c = let s = c.before.before.before.before in
-    (search rules, s.requires.0, rw (server-yes s.args.server.now c.if-has.true) at s.requires.1)
+put_option-requires c = (search rules, c.requires.0, rw (server-yes c.args.server.now c.if-has.true) at c.requires.1)
 
 pub returns-then-has : goal.returns-then-has
 returns-then-has c = wrote_as (sym (server-yes _ c.if-has.true)) c.put_option.ensures

@@ -4,6 +4,10 @@ use Rattle.rules.specs.Words.{be}
 use Rattle.laws.specs.Writes.{wrote_as, wrote_then, be-8}
 use Rattle.print.proofs.message.put_start.Goals as goal
 
+pub put_number-requires : goal.put_number-requires
+unfolding be
+put_number-requires c = search rules
+
 pub returns : goal.returns
 unfolding be
 returns c = 

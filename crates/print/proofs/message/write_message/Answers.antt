@@ -10,23 +10,23 @@ use Rattle.print.proofs.message.write_message.Goals as goal
 
 pub put_ids-p-requires : goal.put_ids-p-requires
 put_ids-p-requires c = 
-    let size : let a = c.args in length (print (message_of a.h a.client.now a.server.now a.d)) ≡ length (ids_bytes a.h.kind a.h.number a.client.now a.h.server a.server.now) + (length (printed (asks_items a.h.asks)) + (length (said_bytes a.h.says a.h.status) + length (pd_bytes a.h.pd a.d))) = message-size _ _ _ _ in
+    let size : length (print (message_of c.args.h c.args.client.now c.args.server.now c.args.d)) ≡ length (ids_bytes c.args.h.kind c.args.h.number c.args.client.now c.args.h.server c.args.server.now) + (length (printed (asks_items c.args.h.asks)) + (length (said_bytes c.args.h.says c.args.h.status) + length (pd_bytes c.args.h.pd c.args.d))) = message-size _ _ _ _ in
     let m = size in search rules
 
 pub put_asks-q-requires : goal.put_asks-q-requires
 put_asks-q-requires c = 
-    let size : let a = c.args in length (print (message_of a.h a.client.now a.server.now a.d)) ≡ length (ids_bytes a.h.kind a.h.number a.client.now a.h.server a.server.now) + (length (printed (asks_items a.h.asks)) + (length (said_bytes a.h.says a.h.status) + length (pd_bytes a.h.pd a.d))) = message-size _ _ _ _ in
+    let size : length (print (message_of c.args.h c.args.client.now c.args.server.now c.args.d)) ≡ length (ids_bytes c.args.h.kind c.args.h.number c.args.client.now c.args.h.server c.args.server.now) + (length (printed (asks_items c.args.h.asks)) + (length (said_bytes c.args.h.says c.args.h.status) + length (pd_bytes c.args.h.pd c.args.d))) = message-size _ _ _ _ in
     let m = size in search rules
 
 pub put_said-r-requires : goal.put_said-r-requires
 put_said-r-requires c = 
-    let size : let a = c.args in length (print (message_of a.h a.client.now a.server.now a.d)) ≡ length (ids_bytes a.h.kind a.h.number a.client.now a.h.server a.server.now) + (length (printed (asks_items a.h.asks)) + (length (said_bytes a.h.says a.h.status) + length (pd_bytes a.h.pd a.d))) = message-size _ _ _ _ in
+    let size : length (print (message_of c.args.h c.args.client.now c.args.server.now c.args.d)) ≡ length (ids_bytes c.args.h.kind c.args.h.number c.args.client.now c.args.h.server c.args.server.now) + (length (printed (asks_items c.args.h.asks)) + (length (said_bytes c.args.h.says c.args.h.status) + length (pd_bytes c.args.h.pd c.args.d))) = message-size _ _ _ _ in
     let m = size in
     search rules
 
 pub put_pds-requires : goal.put_pds-requires
 put_pds-requires c = 
-    let size : let a = c.args in length (print (message_of a.h a.client.now a.server.now a.d)) ≡ length (ids_bytes a.h.kind a.h.number a.client.now a.h.server a.server.now) + (length (printed (asks_items a.h.asks)) + (length (said_bytes a.h.says a.h.status) + length (pd_bytes a.h.pd a.d))) = message-size _ _ _ _ in
+    let size : length (print (message_of c.args.h c.args.client.now c.args.server.now c.args.d)) ≡ length (ids_bytes c.args.h.kind c.args.h.number c.args.client.now c.args.h.server c.args.server.now) + (length (printed (asks_items c.args.h.asks)) + (length (said_bytes c.args.h.says c.args.h.status) + length (pd_bytes c.args.h.pd c.args.d))) = message-size _ _ _ _ in
     let m = size in (
       c.requires.3,
       search rules,
@@ -34,7 +34,7 @@ put_pds-requires c =
 
 pub returns : goal.returns
 returns c = 
-    let size : let a = c.args in length (print (message_of a.h a.client.now a.server.now a.d)) ≡ length (ids_bytes a.h.kind a.h.number a.client.now a.h.server a.server.now) + (length (printed (asks_items a.h.asks)) + (length (said_bytes a.h.says a.h.status) + length (pd_bytes a.h.pd a.d))) = message-size _ _ _ _ in
+    let size : length (print (message_of c.args.h c.args.client.now c.args.server.now c.args.d)) ≡ length (ids_bytes c.args.h.kind c.args.h.number c.args.client.now c.args.h.server c.args.server.now) + (length (printed (asks_items c.args.h.asks)) + (length (said_bytes c.args.h.says c.args.h.status) + length (pd_bytes c.args.h.pd c.args.d))) = message-size _ _ _ _ in
     let m = size in
     wrote-whole (wrote_as (message-split _ _ _ _)
     (wrote_then (search rules) c.put_ids-p.ensures

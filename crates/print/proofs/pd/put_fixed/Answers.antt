@@ -8,6 +8,18 @@ use Rattle.laws.specs.Writes.{wrote_as, wrote_then, be-8, be-sixteen}
 use Rattle.print.specs.Bytes.{fixed_bytes}
 use Rattle.print.proofs.pd.put_fixed.Goals as goal
 
+pub put_number-q-requires : goal.put_number-q-requires
+unfolding be
+put_number-q-requires c = search rules
+
+pub put_number-r-requires : goal.put_number-r-requires
+unfolding be
+put_number-r-requires c = search rules
+
+pub put_bytes-requires : goal.put_bytes-requires
+unfolding be
+put_bytes-requires c = search rules
+
 pub returns : goal.returns
 unfolding fixed_bytes be
 returns c = 

@@ -10,29 +10,24 @@ put_three-p-requires c = let l = ia-size c.args.d in search rules
 
 pub put_prefixes-q-requires : goal.put_prefixes-q-requires
 unfolding three_bytes be
-put_prefixes-q-requires c = let s = c.before.before.before.before.before.before.before in
-    let l = ia-size s.args.d in
-    (s.requires.0.count, s.requires.0.prefixes, search rules)
+put_prefixes-q-requires c = let l = ia-size c.args.d in
+    (c.requires.0.count, c.requires.0.prefixes, search rules)
 
 pub put_said-end-requires : goal.put_said-end-requires
 unfolding three_bytes be
-put_said-end-requires c = let s = c.before.before.before.before.before.before.before.before.before.before.before in
-    let l = ia-size s.args.d in
-    (s.requires.0.status, search rules)
+put_said-end-requires c = let l = ia-size c.args.d in
+    (c.requires.0.status, search rules)
 
 pub put_head-requires : goal.put_head-requires
 unfolding three_bytes be
-put_head-requires c = let s = c.before.before.before.before.before.before.before.before.before.before.before.before.before.before.before in
-    let d = s.args.d in
-    let l = ia-size d in
-    let j = first-few d.count d.prefixes s.requires.0.prefixes s.requires.0.count in
-    let k = said-few d.says d.status in
+put_head-requires c = let l = ia-size c.args.d in
+    let j = first-few c.args.d.count c.args.d.prefixes c.requires.0.prefixes c.requires.0.count in
+    let k = said-few c.args.d.says c.args.d.status in
     search rules
 
 pub returns : goal.returns
 unfolding three_bytes be
-returns c = let s = c.before.before.before.before.before.before.before.before.before.before.before.before.before.before.before.before.before.before in
-    let l = ia-size s.args.d in
+returns c = let l = ia-size c.args.d in
     wrote-front 25 (search rules) (wrote_as (ia-split _)
     (wrote_then (search rules) c.put_three-p.ensures
     (wrote_then (search rules) c.put_prefixes-q.ensures c.put_said-end.ensures))) c.put_head.ensures

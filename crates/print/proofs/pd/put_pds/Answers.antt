@@ -5,7 +5,7 @@ use Rattle.print.proofs.pd.put_pds.Goals as goal
 
 -- The IA_PD, or nothing.
 pub put_pd-requires : goal.put_pd-requires
-put_pd-requires c = let s = c.before.before.before in (s.requires.0, rw (pd-yes s.args.d c.if-has.true) at s.requires.1)
+put_pd-requires c = (c.requires.0, rw (pd-yes c.args.d c.if-has.true) at c.requires.1)
 
 pub returns-then-has : goal.returns-then-has
 returns-then-has c = wrote_as (sym (pd-yes _ c.if-has.true)) c.put_pd.ensures

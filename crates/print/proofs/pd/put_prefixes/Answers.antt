@@ -9,18 +9,20 @@ pub loop-i-init : goal.loop-i-init
 loop-i-init c = (omega arith, refl, rw rest_all left-all)
 
 pub put_prefix-end-requires : goal.put_prefix-end-requires
-put_prefix-end-requires c = let s = c.before.before.before.before.before in
-    let l = c.loop-i in (
-      all_first lease_encodes blank _ _ _ s.requires.1 c.loop-i-test.true (long s),
-      rest-room _ _ _ (long s) c.loop-i-test.true l.invariant.2 s.requires.2 l.invariant.1,
+put_prefix-end-requires c = 
+    let long : c.args.n ≤ length c.args.ps = let l : length c.args.ps ≡ 5 = search rules in omega (arith, c.requires.0) in
+    (
+      all_first lease_encodes blank _ _ _ c.requires.1 c.loop-i-test.true long,
+      rest-room _ _ _ long c.loop-i-test.true c.loop-i.invariant.2 c.requires.2 c.loop-i.invariant.1,
     )
 
 pub loop-i-preserved : goal.loop-i-preserved
-loop-i-preserved c = let s = c.before.before.before.before.before.before.before.before in
-    let l = c.loop-i in (
+loop-i-preserved c = 
+    let long : c.args.n ≤ length c.args.ps = let l : length c.args.ps ≡ 5 = search rules in omega (arith, c.requires.0) in
+    (
       search rules,
       search rules,
-      left-turn l.invariant.2 (search rules) (rest-first _ _ _ (long s) c.loop-i-test.true) c.put_prefix-end.ensures,
+      left-turn c.loop-i.invariant.2 (search rules) (rest-first _ _ _ long c.loop-i-test.true) c.put_prefix-end.ensures,
     )
 
 pub shape_of-out : goal.shape_of-out

@@ -8,4 +8,4 @@ pub returns-then-len-eq0 : goal.returns-then-len-eq0
 returns-then-len-eq0 c = simp (le-ltb 0 c.args.len (omega arith))
 
 pub returns : goal.returns
-returns c = let a = c.args in c.content_ok.ensures ∙ tail-ok a.msg.now a.a a.start a.len (search rules) c.u8_at-b.ensures.0
+returns c = c.content_ok.ensures ∙ tail-ok c.args.msg.now c.args.a c.args.start c.args.len (search rules) c.u8_at-b.ensures.0

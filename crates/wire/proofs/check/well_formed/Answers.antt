@@ -5,8 +5,8 @@ use Rattle.wire.proofs.check.well_formed.Goals as goal
 
 pub returns-in-Good : goal.returns-in-Good
 unfolding well_formed
-returns-in-Good c = sym (ap is_good (sym c.check_area.ensures ∙ c.enum_told-1.given.1))
+returns-in-Good c = sym (ap is_good (sym c.check_area.ensures ∙ c.in-Good.is))
 
 pub returns-in-Broken : goal.returns-in-Broken
 unfolding well_formed
-returns-in-Broken c = sym (ap is_good (sym c.check_area.ensures ∙ c.enum_told-in-Broken-1.given.1))
+returns-in-Broken c = sym (ap is_good (sym c.check_area.ensures ∙ c.in-Broken.is))

@@ -22,11 +22,10 @@ slice_bounds-unpack-start c =
 pub unpack-out-requires : goal.unpack-out-requires
 unpack-out-requires c = 
     let full : 0 < c.args.len = exclude-some c.args.msg.now c.args.a c.args.start c.args.len c.requires.1 in
-    let a = c.args in tail-ok a.msg.now a.a a.start a.len full c.u8_at-b.ensures.0 ∙ c.requires.1
+    tail-ok c.args.msg.now c.args.a c.args.start c.args.len full c.u8_at-b.ensures.0 ∙ c.requires.1
 
 pub returns : goal.returns
 returns c = 
     let long : length c.args.p ≡ 16 = search rules in
-    let a = c.args in
-    cut-read a.msg.now a.p a.a a.start a.len (λ i. (c.type_inv.msg i).fits) (small c.before.before.before.before) long
+    cut-read c.args.msg.now c.args.p c.args.a c.args.start c.args.len (λ i. (c.type_inv.msg i).fits) (small c.before.before.before.before) long
     c.requires.0 c.requires.1 c.u8_at-b.ensures.0 c.unpack-out.result c.unpack-out.ensures

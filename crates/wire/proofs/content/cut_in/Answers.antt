@@ -11,15 +11,15 @@ use Rattle.wire.proofs.content.cut_in.Goals as goal
 
 pub cut_at-requires : goal.cut_at-requires
 cut_at-requires c = 
-    let was : let a = c.args in let g = c.start-1.given.0 in nth 67 0 (area_of a.msg.now a.at a.end) ≡ At g.0 g.1.0 g.1.1.0 = cc in
-    let s = c.before.before.before.before.before in let a = s.args in let w = was in
-    (omega (arith, s.requires.0, nth_inside 67 0 a.msg.now a.at a.end w), good-exclude a.msg.now a.a 0 a.at a.end s.requires.1 w)
+    let was : nth 67 0 (area_of c.args.msg.now c.args.at c.args.end) ≡ At c.in-At.place c.in-At.start c.in-At.len = cc in
+    let w = was in
+    (omega (arith, c.requires.0, nth_inside 67 0 c.args.msg.now c.args.at c.args.end w), good-exclude c.args.msg.now c.args.a 0 c.args.at c.args.end c.requires.1 w)
 
 pub returns-in-At : goal.returns-in-At
 returns-in-At c = 
-    let was : let a = c.args in let g = c.start-1.given.0 in nth 67 0 (area_of a.msg.now a.at a.end) ≡ At g.0 g.1.0 g.1.1.0 = cc in
+    let was : nth 67 0 (area_of c.args.msg.now c.args.at c.args.end) ≡ At c.in-At.place c.in-At.start c.in-At.len = cc in
     rw was c.cut_at.ensures
 
 pub returns-in-Nothing : goal.returns-in-Nothing
 unfolding except_of
-returns-in-Nothing c = let a = c.args in sym (ap (except_at a.msg.now (prefix (num a.p) a.a)) (sym c.find.ensures ∙ c.enum_told-1.given.1))
+returns-in-Nothing c = sym (ap (except_at c.args.msg.now (prefix (num c.args.p) c.args.a)) (sym c.find.ensures ∙ c.in-Nothing.is))

@@ -5,10 +5,8 @@ use Rattle.wire.proofs.Laws.{listed-read}
 use Rattle.wire.proofs.content.prefix_at.Goals as goal
 
 pub cut_in-c-requires : goal.cut_in-c-requires
-cut_in-c-requires c = let s = c.before.before.before.before.before in let a = s.args in
-    (s.requires.within, subst (λ (k : ℕ). check_prefix a.msg.now k (a.start + 25) (a.start + a.len) ≡ Good) (sym c.u8_at-length.ensures.0) s.requires.inner)
+cut_in-c-requires c = (c.requires.within, subst (λ (k : ℕ). check_prefix c.args.msg.now k (c.args.start + 25) (c.args.start + c.args.len) ≡ Good) (sym c.u8_at-length.ensures.0) c.requires.inner)
 
 pub returns : goal.returns
-returns c = let a = c.args in
-    listed-read a.msg.now a.start a.len _ (λ i. (c.type_inv.msg i).fits) (omega (arith, c.requires.within, c.requires.long))
+returns c = listed-read c.args.msg.now c.args.start c.args.len _ (λ i. (c.type_inv.msg i).fits) (omega (arith, c.requires.within, c.requires.long))
     c.u32_at-preferred.ensures c.u32_at-valid.ensures c.u8_at-length.ensures.0 c.get16-bits.ensures c.cut_in-c.ensures

@@ -10,20 +10,20 @@ returns-then-count_of-ne1 c = client-other c.args.msg.now c.count_of.ensures c.i
 
 pub overflow_add-result : goal.overflow_add-result
 overflow_add-result c = 
-    let was : let m = c.args.msg.now in let g = c.start-1.given.0 in nth 1 0 (area_of m 4 (length m)) ≡ At g.0 g.1.0 g.1.1.0 = cc in
-    let inside : c.start-1.given.0.1.0 + c.start-1.given.0.1.1.0 ≤ length c.args.msg.now = nth_inside _ _ _ _ _ was in
+    let was : nth 1 0 (area_of c.args.msg.now 4 (length c.args.msg.now)) ≡ At c.in-At.place c.in-At.start c.in-At.len = cc in
+    let inside : c.in-At.start + c.in-At.len ≤ length c.args.msg.now = nth_inside _ _ _ _ _ was in
     omega (arith, inside)
 
 pub slice_bounds-result-end-in-At : goal.slice_bounds-result-end-in-At
 slice_bounds-result-end-in-At c = 
-    let was : let m = c.args.msg.now in let g = c.start-1.given.0 in nth 1 0 (area_of m 4 (length m)) ≡ At g.0 g.1.0 g.1.1.0 = cc in
-    let inside : c.start-1.given.0.1.0 + c.start-1.given.0.1.1.0 ≤ length c.args.msg.now = nth_inside _ _ _ _ _ was in
+    let was : nth 1 0 (area_of c.args.msg.now 4 (length c.args.msg.now)) ≡ At c.in-At.place c.in-At.start c.in-At.len = cc in
+    let inside : c.in-At.start + c.in-At.len ≤ length c.args.msg.now = nth_inside _ _ _ _ _ was in
     inside
 
 pub returns-in-At : goal.returns-in-At
 returns-in-At c = 
-    let was : let m = c.args.msg.now in let g = c.start-1.given.0 in nth 1 0 (area_of m 4 (length m)) ≡ At g.0 g.1.0 g.1.1.0 = cc in
-    let m = c.args.msg.now in stretch m _ _ ∙ client-one m c.count_of.ensures c.if-count_of-ne1.false (sym was)
+    let was : nth 1 0 (area_of c.args.msg.now 4 (length c.args.msg.now)) ≡ At c.in-At.place c.in-At.start c.in-At.len = cc in
+    stretch c.args.msg.now _ _ ∙ client-one c.args.msg.now c.count_of.ensures c.if-count_of-ne1.false (sym was)
 
 pub returns-in-Nothing : goal.returns-in-Nothing
-returns-in-Nothing c = client-one c.args.msg.now c.count_of.ensures c.if-count_of-ne1.false (sym c.enum_told-1.given.1 ∙ c.find.ensures)
+returns-in-Nothing c = client-one c.args.msg.now c.count_of.ensures c.if-count_of-ne1.false (sym c.in-Nothing.is ∙ c.find.ensures)

@@ -11,27 +11,27 @@ abbrev says : List ℕ → ℕ → Found → Bool
 says m k f = eqb k (status_at m f)
 
 pub loop-code-init : goal.loop-code-init
-loop-code-init c = let a = c.args in any-map (eqb a.k) (status_at a.msg.now) (options 13 (area_of a.msg.now a.at a.end))
+loop-code-init c = any-map (eqb c.args.k) (status_at c.args.msg.now) (options 13 (area_of c.args.msg.now c.args.at c.args.end))
 
 pub returns-then-code-k : goal.returns-then-code-k
 returns-then-code-k c = 
-    let found : let a = c.args in let g = c.code-1.given.0 in Stepped a.msg.now c.loop-code.p a.end g.0 g.1.0 g.1.1.0 g.1.1.1.0 = stepped _ _ _ (cc) in
-    let said : let a = c.args in let g = c.code-1.given.0 in eqb g.0 13 && eqb a.k c.u16_at.result ≡ eqb g.0 13 && says a.msg.now a.k (At c.loop-code.p g.1.0 g.1.1.0) = let a = c.args in ap (λ (x : ℕ). eqb c.code-1.given.0.0 13 && eqb a.k x) c.u16_at.ensures.0 in
+    let found : Stepped c.args.msg.now c.loop-code.p c.args.end c.in-Opt.code c.in-Opt.start c.in-Opt.len c.in-Opt.next = stepped _ _ _ (cc) in
+    let said : eqb c.in-Opt.code 13 && eqb c.args.k c.u16_at.result ≡ eqb c.in-Opt.code 13 && says c.args.msg.now c.args.k (At c.loop-code.p c.in-Opt.start c.in-Opt.len) = ap (λ (x : ℕ). eqb c.in-Opt.code 13 && eqb c.args.k x) c.u16_at.ensures.0 in
     sym (c.loop-code.invariant ∙ any-hit _ _ found said c.if-code-k.true)
 
 pub loop-code-smaller : goal.loop-code-smaller
 loop-code-smaller c = 
-    let found : let a = c.args in let g = c.code-1.given.0 in Stepped a.msg.now c.loop-code.p a.end g.0 g.1.0 g.1.1.0 g.1.1.1.0 = stepped _ _ _ (cc) in
+    let found : Stepped c.args.msg.now c.loop-code.p c.args.end c.in-Opt.code c.in-Opt.start c.in-Opt.len c.in-Opt.next = stepped _ _ _ (cc) in
     omega (arith, found)
 
 pub loop-code-preserved : goal.loop-code-preserved
 loop-code-preserved c = 
-    let found : let a = c.args in let g = c.code-1.given.0 in Stepped a.msg.now c.loop-code.p a.end g.0 g.1.0 g.1.1.0 g.1.1.1.0 = stepped _ _ _ (cc) in
-    let said : let a = c.args in let g = c.code-1.given.0 in eqb g.0 13 && eqb a.k c.u16_at.result ≡ eqb g.0 13 && says a.msg.now a.k (At c.loop-code.p g.1.0 g.1.1.0) = let a = c.args in ap (λ (x : ℕ). eqb c.code-1.given.0.0 13 && eqb a.k x) c.u16_at.ensures.0 in
+    let found : Stepped c.args.msg.now c.loop-code.p c.args.end c.in-Opt.code c.in-Opt.start c.in-Opt.len c.in-Opt.next = stepped _ _ _ (cc) in
+    let said : eqb c.in-Opt.code 13 && eqb c.args.k c.u16_at.result ≡ eqb c.in-Opt.code 13 && says c.args.msg.now c.args.k (At c.loop-code.p c.in-Opt.start c.in-Opt.len) = ap (λ (x : ℕ). eqb c.in-Opt.code 13 && eqb c.args.k x) c.u16_at.ensures.0 in
     c.loop-code.invariant ∙ any-miss _ _ found said c.if-code-k.false
 
 pub returns-in-End : goal.returns-in-End
-returns-in-End c = let a = c.args in sym (c.loop-code.invariant ∙ any-stop _ _ (ended a.msg.now c.loop-code.p a.end (cc)))
+returns-in-End c = sym (c.loop-code.invariant ∙ any-stop _ _ (ended c.args.msg.now c.loop-code.p c.args.end (cc)))
 
 pub returns-in-Bad : goal.returns-in-Bad
-returns-in-Bad c = let a = c.args in sym (c.loop-code.invariant ∙ any-stop _ _ (broke a.msg.now c.loop-code.p a.end (sym c.step_at.ensures ∙ c.enum_told-in-Bad-1.given.1)))
+returns-in-Bad c = sym (c.loop-code.invariant ∙ any-stop _ _ (broke c.args.msg.now c.loop-code.p c.args.end (sym c.step_at.ensures ∙ c.in-Bad.is)))

@@ -1,0 +1,4 @@
+use Rattle.search.proofs.hits.Goals as goal
+
+pub returns : goal.returns
+returns c = rw (← c.area_at-q.ensures) c.overlap.ensures

@@ -1,0 +1,5 @@
+use Rattle.laws.specs.Records.{read}
+use Rattle.search.proofs.record_at.Goals as goal
+
+pub returns : goal.returns
+returns c = cc (read c.args.t.now c.args.i)
