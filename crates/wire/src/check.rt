@@ -60,7 +60,7 @@ fn in_prefix(
 }
 
 // One option inside an IA_PD.
-#[cycle(check_area_check_one_in_pd_in_top)]
+#[cycle(levels)]
 fn in_pd(msg: &[u8], place: usize, code: usize, start: usize, len: usize) -> Checked
     requires { start + len ≤ length msg.now }
     ensures { result ≡ in_pd msg.now 0 place code start len }
@@ -79,7 +79,7 @@ fn in_pd(msg: &[u8], place: usize, code: usize, start: usize, len: usize) -> Che
 }
 
 // One option of the message's own area.
-#[cycle(check_area_check_one_in_pd_in_top)]
+#[cycle(levels)]
 fn in_top(msg: &[u8], place: usize, code: usize, start: usize, len: usize) -> Checked
     requires { start + len ≤ length msg.now }
     ensures { result ≡ in_top msg.now 0 place code start len }
@@ -97,7 +97,7 @@ fn in_top(msg: &[u8], place: usize, code: usize, start: usize, len: usize) -> Ch
 }
 
 // One option at a level.
-#[cycle(check_area_check_one_in_pd_in_top)]
+#[cycle(levels)]
 pub fn check_one(
     msg: &[u8],
     l: Level,
@@ -125,7 +125,7 @@ fn is_judged(code: usize) -> bool
 }
 
 // The first bad place of an area at a level.
-#[cycle(check_area_check_one_in_pd_in_top)]
+#[cycle(levels)]
 pub fn check_area(msg: &[u8], l: Level, at: usize, end: usize) -> Checked
     requires { end ≤ length msg.now }
     ensures { result ≡ check l msg.now at end }

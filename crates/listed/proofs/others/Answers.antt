@@ -1,4 +1,4 @@
-use Rattle.std.proofs.Common.{◌≡◌, refl, sym, ap, ◌∙◌, ⊎_elim, ◌-◌, ◌≤◌, arith, length}
+use Rattle.std.proofs.Common.{◌≡◌, refl, sym, ap, ◌∙◌, ◌-◌, ◌≤◌, arith, length}
 use borrow.Author.Rules.{rules}
 use lib.ListN.{length-set}
 use Rattle.std.proofs.lemmas.Bool.{not-true, not-false}
@@ -8,6 +8,7 @@ use Rattle.values.specs.Values.{first_listed}
 use Rattle.values.specs.Listed.{rest_listed, put_next}
 use Rattle.listed.proofs.Laws.{other-put, other-skip, others-done}
 use Rattle.listed.proofs.others.Goals as goal
+use Rattle.listed.proofs.others.Goals.{then-not-is_prefix, else-not-is_prefix}
 
 pub loop-i-init : goal.loop-i-init
 unfolding rest_listed
@@ -16,10 +17,16 @@ loop-i-init c = (omega arith, omega arith, search rules, refl)
 pub loop-i-preserved : goal.loop-i-preserved
 loop-i-preserved c = 
     let long : c.args.n ≤ length c.args.ps = let l : length c.args.ps ≡ 5 = search rules in omega (arith, c.requires) in
-    ⊎_elim
-    (λ w. (omega arith, omega arith, ap length w.2 ∙ simp length-set c.loop-i.invariant.2, other-put _ _ _ long _ _ _ c.loop-i.invariant.3 _ c.loop-i-test.true (omega arith) w.2 w.3 (sym c.is_prefix.ensures ∙ not-true _ w.0.taken) w.1.ensures))
-    (λ w. (omega arith, omega arith, ap length w.1 ∙ c.loop-i.invariant.2, other-skip _ _ _ long _ _ _ c.loop-i.invariant.3 c.loop-i-test.true w.1 w.2 (sym c.is_prefix.ensures ∙ not-false _ w.0.left)))
-    c.if-not-is_prefix.branch
+    elim c.if-not-is_prefix.branch [
+      then-not-is_prefix w ↦ (
+        omega arith, omega arith, ap length w.out-is ∙ simp length-set c.loop-i.invariant.2,
+        other-put _ _ _ long _ _ _ c.loop-i.invariant.3 _ c.loop-i-test.true (omega arith) w.out-is w.k-is (sym c.is_prefix.ensures ∙ w.if-not-is_prefix.true) w.returned.ensures,
+      )
+      | else-not-is_prefix w ↦ (
+        omega arith, omega arith, ap length w.out-is ∙ c.loop-i.invariant.2,
+        other-skip _ _ _ long _ _ _ c.loop-i.invariant.3 c.loop-i-test.true w.out-is w.k-is (sym c.is_prefix.ensures ∙ w.if-not-is_prefix.false),
+      )
+    ]
 
 pub returns : goal.returns
 returns c = 

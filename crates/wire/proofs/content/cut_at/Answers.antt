@@ -6,9 +6,6 @@ use Rattle.laws.specs.Numbers.{Bytes}
 use Rattle.wire.proofs.Laws.{cut-read, exclude-some, tail-ok}
 use Rattle.wire.proofs.content.cut_at.Goals as goal
 
-small : (c : tie.Start) → Bytes c.args.p
-small c i = let f : Fits w8 (get_or c.args.p i 0) = search rules in f.fits
-
 pub slice_bounds-unpack-count : goal.slice_bounds-unpack-count
 slice_bounds-unpack-count c = 
     let full : 0 < c.args.len = exclude-some c.args.msg.now c.args.a c.args.start c.args.len c.requires.1 in
@@ -27,5 +24,6 @@ unpack-out-requires c =
 pub returns : goal.returns
 returns c = 
     let long : length c.args.p ≡ 16 = search rules in
-    cut-read c.args.msg.now c.args.p c.args.a c.args.start c.args.len (λ i. (c.type_inv.msg i).fits) (small c.before.before.before.before) long
+    let small : Bytes c.args.p = λ i. let f : Fits w8 (get_or c.args.p i 0) = search rules in f.fits in
+    cut-read c.args.msg.now c.args.p c.args.a c.args.start c.args.len (λ i. (c.type_inv.msg i).fits) small long
     c.requires.0 c.requires.1 c.u8_at-b.ensures.0 c.unpack-out.result c.unpack-out.ensures

@@ -1,8 +1,13 @@
-use Rattle.std.proofs.Common.{map, ◌≡◌, ◌-◌, eqb}
+use Rattle.std.proofs.Common.{Bool, List, map, ◌≡◌, ℕ, ◌-◌, eqb}
 use Rattle.rules.specs.Words.{any}
 use Rattle.rules.specs.Options.{area_of, options}
 use Rattle.rules.specs.Message.{status_at}
+use Rattle.rules.specs.declared.Found.{Found}
 use Rattle.wire.proofs.says.has_status.Given as goal
+
+-- The invariant: some Status Code says it where one of those from here on does.
+abbrev says : List ℕ → ℕ → Found → Bool
+says m k f = eqb k (status_at m f)
 
 abbrev pub invariant-loop-code : goal.invariant-loop-code
 invariant-loop-code l = any (eqb l.k) (map (status_at l.msg) (options 13 (area_of l.msg l.at l.end))) ≡ any (says l.msg l.k) (options 13 (area_of l.msg l.p l.end))

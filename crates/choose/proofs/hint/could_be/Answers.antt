@@ -1,0 +1,4 @@
+use Rattle.choose.proofs.hint.could_be.Goals as goal
+
+pub returns : goal.returns
+returns c = rw (c.zero_after.ensures, c.inside.ensures)
