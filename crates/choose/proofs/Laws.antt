@@ -98,22 +98,22 @@ module _ (l : List ℕ) (n pool width shortest standard : ℕ) where
     room : length (recs l n) < 256
     room = rw (from-length (record_at l) n 0) few
 
-    pub unasked : {c : Option Prefix} → not hinted ≡ true → c ≡ shortest_from (61 - standard) (chooser pool width 0 0) (recs l n) standard → c ≡ choose set (recs l n) (hint_of hinted u m a)
+    pub unasked : {c : Option Prefix} → hinted ≡ false → c ≡ shortest_from (61 - standard) (chooser pool width 0 0) (recs l n) standard → c ≡ choose set (recs l n) (hint_of hinted u m a)
     unasked q e =
         e ∙ same-shortest (chooser pool width 0 0) set (recs l n) refl (61 - standard) standard
-        ∙ sym (rw (not-true hinted q) (choose-unasked set (recs l n) room))
+        ∙ sym (rw q (choose-unasked set (recs l n) room))
 
-    module _ (q : not hinted ≡ false) (b : Bool) (eb : b ≡ is_place (chooser pool width shortest 0) (recs l n) (some (prefix (u * 2 ^ 64 + m) a))) where
+    module _ (q : hinted ≡ true) (b : Bool) (eb : b ≡ is_place (chooser pool width shortest 0) (recs l n) (some (prefix (u * 2 ^ 64 + m) a))) where
       place_is : is_place set (recs l n) (some (prefix (u * 2 ^ 64 + m) a)) ≡ b
       place_is = same_place set (chooser pool width shortest 0) (recs l n) refl refl (some (prefix (u * 2 ^ 64 + m) a)) ∙ sym eb
 
       pub asked : m < 2 ^ 64 → b ≡ true → some (upper u a) ≡ choose set (recs l n) (hint_of hinted u m a)
       asked f t =
           let p = place_is ∙ t in
-          sym (rw (not-false hinted q) (choose-asked set (recs l n) room (prefix (u * 2 ^ 64 + m) a) p ∙ ap some (hint-place set (recs l n) u m a f p)))
+          sym (rw q (choose-asked set (recs l n) room (prefix (u * 2 ^ 64 + m) a) p ∙ ap some (hint-place set (recs l n) u m a f p)))
 
       pub other : {c : Option Prefix} {w : ℕ} → b ≡ false → w ≡ wanted_for (chooser 0 0 shortest standard) a
           → c ≡ shortest_from (61 - w) (chooser pool width 0 0) (recs l n) w → c ≡ choose set (recs l n) (hint_of hinted u m a)
       other {w = w} t ew e =
           e ∙ same-shortest (chooser pool width 0 0) set (recs l n) refl (61 - w) w ∙ ap (λ (k : ℕ). shortest_from (61 - k) set (recs l n) k) ew
-          ∙ sym (rw (not-false hinted q) (choose-other set (recs l n) room (prefix (u * 2 ^ 64 + m) a) (place_is ∙ t)))
+          ∙ sym (rw q (choose-other set (recs l n) room (prefix (u * 2 ^ 64 + m) a) (place_is ∙ t)))

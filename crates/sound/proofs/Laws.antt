@@ -79,11 +79,11 @@ module _ (at n : ℕ) (b : List ℕ) where
 -- ---------------------------------------------------------------- records beside each other
 
 module _ (t : List ℕ) (n : ℕ) {a : Bool} (areas : a ≡ no_two (clear true) (from (record_at t) 0 n)) where
-  pub two-stop : not a ≡ true → false ≡ no_two may_stand (from (record_at t) 0 n)
-  two-stop h = sym (two-tests (from (record_at t) 0 n) ∙ rw (sym areas ∙ not-true a h))
+  pub two-stop : a ≡ false → false ≡ no_two may_stand (from (record_at t) 0 n)
+  two-stop h = sym (two-tests (from (record_at t) 0 n) ∙ rw (sym areas ∙ h))
 
-  pub two-rest : {b : Bool} → not a ≡ false → b ≡ no_two (clear false) (from (record_at t) 0 n) → b ≡ no_two may_stand (from (record_at t) 0 n)
-  two-rest h e = e ∙ sym (two-tests (from (record_at t) 0 n) ∙ rw (sym areas ∙ not-false a h))
+  pub two-rest : {b : Bool} → a ≡ true → b ≡ no_two (clear false) (from (record_at t) 0 n) → b ≡ no_two may_stand (from (record_at t) 0 n)
+  two-rest h e = e ∙ sym (two-tests (from (record_at t) 0 n) ∙ rw (sym areas ∙ h))
 
 -- keys of which no two are the same tell it
 pub keys-told : (t keys l : List ℕ) (n m : ℕ) (by : Bool) → all (good_row (settings_of t)) (from (row_at t) 0 n) ≡ true → Bytes t → table_size ≤ length t → n ≤ 256
@@ -106,15 +106,15 @@ module _ (b : List ℕ) where
 
     -- the first n records, good or not
     module _ (few : n ≤ 256) {g : Bool} (rows : g ≡ all (good_row (settings_of b)) (from (row_at b) 0 n)) where
-      pub bad-rows : not g ≡ true → false ≡ sound_bytes b
+      pub bad-rows : g ≡ false → false ≡ sound_bytes b
       unfolding flat_sound
-      bad-rows h = let r = sym rows ∙ not-true g h in sym (flat_sound_lem b y s ∙ rw (← e, le-leb n 256 few, r, and-false (good_header b)))
+      bad-rows h = let r = sym rows ∙ h in sym (flat_sound_lem b y s ∙ rw (← e, le-leb n 256 few, r, and-false (good_header b)))
 
-      pub sound-read : {h w z : Bool} {l : ℕ} → not g ≡ false → h ≡ good_header b → w ≡ no_two may_stand (from (record_at b) 0 n)
+      pub sound-read : {h w z : Bool} {l : ℕ} → g ≡ true → h ≡ good_header b → w ≡ no_two may_stand (from (record_at b) 0 n)
           → z ≡ all (eqb 0) (part (place n) (table_size - place n) b) → l ≡ num_at b 0 8 → h && w && z && ltb l (2 ^ 48) ≡ sound_bytes b
       unfolding flat_sound
       sound-read k h w z l =
-          let r = sym rows ∙ not-false g k in
+          let r = sym rows ∙ k in
           rw (h, w, z, l) (sym (flat_sound_lem b y s ∙ rw (← e, le-leb n 256 few, r, and-true (good_header b))))
 
 -- ---------------------------------------------------------------- the box's own DUID

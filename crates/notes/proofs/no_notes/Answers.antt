@@ -1,0 +1,4 @@
+use Rattle.notes.proofs.no_notes.Goals as goal
+
+pub returns : goal.returns
+returns c = rw c.nothing-none.ensures
