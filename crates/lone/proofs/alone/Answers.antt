@@ -1,0 +1,14 @@
+use Rattle.std.proofs.Common.{eq-eqb, ne_eqb}
+use Rattle.lone.proofs.alone.Goals as goal
+
+pub returns-then-u16_at-w : goal.returns-then-u16_at-w
+returns-then-u16_at-w c = simp (← c.u16_at.ensures.0, ne_eqb _ _ c.if-u16_at-w.true)
+
+pub returns-then-len-text : goal.returns-then-len-text
+returns-then-len-text c = simp (← c.u16_at.ensures.0, eq-eqb _ _ c.if-u16_at-w.false, ← c.u16_at-len.ensures.0, ne_eqb _ _ c.if-len-text.true)
+
+pub returns-in-Good : goal.returns-in-Good
+returns-in-Good c = simp (← c.u16_at.ensures.0, eq-eqb _ _ c.if-u16_at-w.false, ← c.u16_at-len.ensures.0, eq-eqb _ _ c.if-len-text.false, ← c.check_one.ensures, c.in-Good.is)
+
+pub returns-in-Broken : goal.returns-in-Broken
+returns-in-Broken c = simp (← c.u16_at.ensures.0, eq-eqb _ _ c.if-u16_at-w.false, ← c.u16_at-len.ensures.0, eq-eqb _ _ c.if-len-text.false, ← c.check_one.ensures, c.in-Broken.is)
