@@ -1,0 +1,26 @@
+use Rattle.std.proofs.Common.{◌∙◌, ◌≡◌, sym, arith}
+use Rattle.rules.specs.declared.Found.TheVariants.{At}
+use Rattle.laws.specs.RouterRepresent.{lent_length}
+use Rattle.heard.specs.Heard.{only_of}
+use Rattle.awaited.specs.Facts.{only-formed}
+use Rattle.receiving.proofs.Laws.{began-small, facts, held_kept, held_one, held-taken}
+use Rattle.receiving.proofs.held_after.Goals as goal
+
+pub returns-then-kind : goal.returns-then-kind
+returns-then-kind c = held_kept c.requires _ c.if-kind.true c.kept.ensures
+
+pub get-began-requires : goal.get-began-requires
+get-began-requires c = omega (arith, lent_length _ c.requires.sound)
+
+pub taken-requires : goal.taken-requires
+taken-requires c = 
+    let was : only_of 25 c.args.msg.now ≡ At c.in-At.place c.in-At.start c.in-At.len = cc in
+    (only-formed _ (facts c.requires).formed was, began-small c.requires c.get-began.ensures.0)
+
+pub returns-in-At : goal.returns-in-At
+returns-in-At c = 
+    let was : only_of 25 c.args.msg.now ≡ At c.in-At.place c.in-At.start c.in-At.len = cc in
+    held-taken c.requires _ c.if-kind.false c.get-began.ensures.0 was c.taken.ensures
+
+pub returns-in-Nothing : goal.returns-in-Nothing
+returns-in-Nothing c = absurd (held_one c.requires c.args.time c.if-kind.false (sym c.only.ensures ∙ c.in-Nothing.is))

@@ -1,0 +1,29 @@
+use Rattle.std.proofs.Common.{◌∙◌, ◌≡◌, sym, ◌+◌, ◌≤◌, arith, length}
+use Rattle.rules.specs.declared.Found.TheVariants.{At}
+use Rattle.heard.specs.Facts.{only-inside}
+use Rattle.heard.specs.Heard.{only_of}
+use Rattle.receiving.proofs.Laws.{server-kept, server-none, server-told}
+use Rattle.receiving.proofs.server_after.Goals as goal
+
+pub returns-then-kind : goal.returns-then-kind
+returns-then-kind c = server-kept c.args.kind c.args.msg.now c.if-kind.true
+
+pub overflow_add-result : goal.overflow_add-result
+overflow_add-result c = 
+    let was : only_of 2 c.args.msg.now ≡ At c.in-At.place c.in-At.start c.in-At.len = cc in
+    let inside : c.in-At.start + c.in-At.len ≤ length c.args.msg.now = only-inside _ _ was in
+    omega (arith, inside)
+
+pub slice_bounds-result-end-in-At : goal.slice_bounds-result-end-in-At
+slice_bounds-result-end-in-At c = 
+    let was : only_of 2 c.args.msg.now ≡ At c.in-At.place c.in-At.start c.in-At.len = cc in
+    let inside : c.in-At.start + c.in-At.len ≤ length c.args.msg.now = only-inside _ _ was in
+    inside
+
+pub returns-in-At : goal.returns-in-At
+returns-in-At c = 
+    let was : only_of 2 c.args.msg.now ≡ At c.in-At.place c.in-At.start c.in-At.len = cc in
+    server-told c.args.kind c.args.msg.now c.if-kind.false was
+
+pub returns-in-Nothing : goal.returns-in-Nothing
+returns-in-Nothing c = server-none c.args.kind c.args.msg.now c.if-kind.false (sym c.only.ensures ∙ c.in-Nothing.is)
