@@ -13,4 +13,4 @@ pub start-requires : goal.start-requires
 start-requires c = (search rules, own-few _ c.good_settings.ensures (ap not c.if-not-good_settings.false))
 
 pub returns : goal.returns
-returns c = start-0 _ _ _ c.good_settings.ensures (ap not c.if-not-good_settings.false) c.if-time-ge281474976710656.false (pool-upper _ _ _ _ _ _ _ _ _ c.ranges.high.fits c.ranges.low.fits c.ranges.valid.fits (sym c.good_settings.ensures ∙ (ap not c.if-not-good_settings.false))) c.start.ensures
+returns c = start-0 _ _ _ c.good_settings.ensures (ap not c.if-not-good_settings.false) c.if-time-ge281474976710656.false (pool-upper _ _ _ _ _ _ _ _ _ c.ranges.high.fits c.ranges.low.fits c.ranges.valid.fits (sym c.good_settings.ensures ∙ c.if-not-good_settings.false)) c.start.ensures
