@@ -1,10 +1,5 @@
 -- A number of bytes at the front of a room, as a caller asks for them.
-use Prim.Native.Nat.{ℕ, ◌≤◌}
-use mathlib.Core.Path.{sym}
-use mathlib.Core.List.{List}
-use lib.ListN.{length}
-use lib.Seq.{length-take-le}
-use Rattle.io.specs.Counts.{IsPrefixLen}
+use Rattle.std.proofs.Common.{◌≡◌, ℕ, ◌≤◌, List, length, take, sym, length-take-le}
 
-pub counted : (n : ℕ) (xs : List ℕ) → n ≤ length xs → IsPrefixLen n xs
+pub counted : (n : ℕ) (xs : List ℕ) → n ≤ length xs → (n ≤ length xs) × (n ≡ length (take n xs))
 counted n xs h = (h, sym (length-take-le n xs h))

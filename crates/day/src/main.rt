@@ -10,7 +10,10 @@
 mod steps; // steps.rt: what a line asks for, done
 mod words; // words.rt: the words of a line, as numbers and bytes
 
-ghost use Rattle.std.specs.Prelude.{◌≤◌, length};
+ghost use Rattle.std.specs.Prelude.{◌≤◌, IfOk, length};
+
+use std::io;
+use std::io::{Input, Print, Read};
 
 // Where the line ends in which a place lies.
 fn line_end(text: &[u8], from: usize) -> usize
@@ -27,30 +30,46 @@ fn line_end(text: &[u8], from: usize) -> usize
     i
 }
 
-fn numbered(table: &mut [u8; 39344], step: usize, line: &[u8]) {
-    show::say_number(step);
-    show::say(b" ");
-    steps::run(table, line);
-    show::say(b"\n");
+fn numbered(rt: &impl Print, table: &mut [u8; 39344], step: usize, line: &[u8]) -> io::Result<()> {
+    show::say_number(rt, step)?;
+    show::say(rt, b" ")?;
+    steps::run(rt, table, line)?;
+    show::say(rt, b"\n")
 }
 
-fn day(text: &[u8]) {
+fn day(rt: &impl Print, text: &[u8]) -> io::Result<()> {
     let mut table = [0u8; 39344];
     let mut at = 0;
     let mut step = 0;
     while at < text.len() {
         let end = line_end(text, at);
         step += 1;
-        numbered(&mut table, step, &text[at..end]);
+        numbered(rt, &mut table, step, &text[at..end])?;
         if end == text.len() {
-            return;
+            return Ok(());
         }
         at = end + 1;
     }
+    Ok(())
 }
 
-fn main() {
-    let mut text = io::large_buffer();
-    let n = io::read_full(libc::STDIN_FILENO, &mut text);
-    day(&text[..n]);
+// Reads until the room is full or the input ends: how many bytes there are at its front.
+fn read_full(input: &mut impl Read, room: &mut [u8]) -> io::Result<usize>
+    ensures { IfOk result (λ n. n ≤ length room.new) }
+{
+    let mut n = 0;
+    while n < room.len() {
+        let more = input.read(&mut room[n..])?;
+        if more == 0 {
+            break;
+        }
+        n += more;
+    }
+    Ok(n)
+}
+
+fn main(rt: HostRuntime) -> io::Result<()> {
+    let mut text = [0u8; 65536];
+    let n = read_full(&mut rt.reader(), &mut text)?;
+    day(&rt, &text[..n])
 }

@@ -4,6 +4,8 @@ ghost use Rattle.std.specs.Prelude.{◌+◌, ◌≤◌, length};
 use crate::words::{bytes, number};
 use delegator::handling::handle;
 use show::{say, say_hex, say_number};
+use std::io;
+use std::io::Print;
 
 // Whether the room from a place on is as it was lent.
 fn as_lent(room: &[u8], from: usize) -> bool {
@@ -19,23 +21,24 @@ fn as_lent(room: &[u8], from: usize) -> bool {
 
 // A word of the box: the refusal's number, or the answer that stands at the front of the room. What is written past it is told
 // too.
-fn tell(word: u64, room: &[u8]) {
+fn tell(rt: &impl Print, word: u64, room: &[u8]) -> io::Result<()> {
     let n = (word % 65536) as usize;
     if 65535 < word {
-        say(b"refused ");
-        say_number((word / 65536) as usize);
+        say(rt, b"refused ")?;
+        say_number(rt, (word / 65536) as usize)?;
     } else {
         if n <= room.len() {
-            say_hex(&room[..n]);
+            say_hex(rt, &room[..n])?;
         }
     }
     if !as_lent(room, n) {
-        say(b" and more");
+        say(rt, b" and more")?;
     }
+    Ok(())
 }
 
-fn begin(table: &mut [u8; 39344], line: &[u8]) {
-    let mut room = io::buffer();
+fn begin(rt: &impl Print, table: &mut [u8; 39344], line: &[u8]) -> io::Result<()> {
+    let mut room = [0u8; 4096];
     let n = bytes(line, 8, &mut room);
     let word = delegator::opening::start(
         table,
@@ -51,39 +54,45 @@ fn begin(table: &mut [u8; 39344], line: &[u8]) {
         number(line, 9, 10),
     );
     if word == 0 {
-        say(b"started");
+        say(rt, b"started")?;
     }
-    tell(word, b"");
+    tell(rt, word, b"")
 }
 
-fn count(table: &[u8; 39344], time: u64) {
+fn count(rt: &impl Print, table: &[u8; 39344], time: u64) -> io::Result<()> {
     let word = delegator::showing::live(table, time);
     if word < 65536 {
-        say(b"live ");
-        say_number(word as usize);
-        return;
+        say(rt, b"live ")?;
+        say_number(rt, word as usize)?;
+        return Ok(());
     }
-    tell(word, b"");
+    tell(rt, word, b"")
 }
 
-fn answer(table: &mut [u8; 39344], time: u64, message: &[u8], room: &mut [u8]) {
+fn answer(
+    rt: &impl Print,
+    table: &mut [u8; 39344],
+    time: u64,
+    message: &[u8],
+    room: &mut [u8],
+) -> io::Result<()> {
     let word = handle(table, time, message, room);
-    tell(word, room);
+    tell(rt, word, room)
 }
 
-fn message(table: &mut [u8; 39344], line: &[u8]) {
+fn message(rt: &impl Print, table: &mut [u8; 39344], line: &[u8]) -> io::Result<()> {
     let time = number(line, 0, 10);
-    let mut text = io::buffer();
+    let mut text = [0u8; 4096];
     let n = bytes(line, 1, &mut text);
     if n == 0 {
-        count(table, time);
-        return;
+        count(rt, table, time)?;
+        return Ok(());
     }
     if number(line, 2, 10) == 511 {
-        answer(table, time, &text[..n], &mut [0xeeu8; 511]);
-        return;
+        answer(rt, table, time, &text[..n], &mut [0xeeu8; 511])?;
+        return Ok(());
     }
-    answer(table, time, &text[..n], &mut [0xeeu8; 512]);
+    answer(rt, table, time, &text[..n], &mut [0xeeu8; 512])
 }
 
 // A message with a number in the two bytes from a place, handled.
@@ -122,35 +131,43 @@ fn repeat(
 }
 
 // The same, and the last answer told; nothing where the place isn't in the message.
-fn fill_in(table: &mut [u8; 39344], time: u64, turns: u64, text: &mut [u8], at: usize) {
+fn fill_in(
+    rt: &impl Print,
+    table: &mut [u8; 39344],
+    time: u64,
+    turns: u64,
+    text: &mut [u8],
+    at: usize,
+) -> io::Result<()> {
     if text.len() < 2 {
-        return;
+        return Ok(());
     }
     if text.len() - 2 < at {
-        return;
+        return Ok(());
     }
     let mut room = [0xeeu8; 512];
     let word = repeat(table, time, turns, text, at, &mut room);
-    tell(word, &room);
+    tell(rt, word, &room)
 }
 
-fn fill(table: &mut [u8; 39344], line: &[u8]) {
-    let mut text = io::buffer();
+fn fill(rt: &impl Print, table: &mut [u8; 39344], line: &[u8]) -> io::Result<()> {
+    let mut text = [0u8; 4096];
     let n = bytes(line, 4, &mut text);
     let time = number(line, 1, 10);
     let turns = number(line, 2, 10);
     let at = number(line, 3, 10) as usize;
-    fill_in(table, time, turns, &mut text[..n], at);
+    fill_in(rt, table, time, turns, &mut text[..n], at)
 }
 
-pub fn run(table: &mut [u8; 39344], line: &[u8]) {
+pub fn run(rt: &impl Print, table: &mut [u8; 39344], line: &[u8]) -> io::Result<()> {
     if line.len() == 0 {
-        return;
+        return Ok(());
     }
     let c = line[0];
     match c {
-        b's' => begin(table, line),
-        b'f' => fill(table, line),
-        _ => message(table, line),
+        b's' => begin(rt, table, line)?,
+        b'f' => fill(rt, table, line)?,
+        _ => message(rt, table, line)?,
     }
+    Ok(())
 }

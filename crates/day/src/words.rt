@@ -1,6 +1,5 @@
 // The words of a line, parted by single spaces and counted from 0; one that isn't there is empty.
-ghost use Rattle.std.specs.Prelude.{◌≤◌, ◌<◌, length};
-ghost use Rattle.io.specs.Counts.{IsPrefixLen};
+ghost use Rattle.std.specs.Prelude.{◌≡◌, ◌≤◌, ◌<◌, length, take};
 
 // What a digit is worth, 16 where there is none.
 fn digit(c: u8) -> u64
@@ -60,7 +59,7 @@ pub fn number(line: &[u8], k: usize, base: u64) -> u64
 
 // A word as bytes, two digits for each, at the front of a room: how many there are.
 pub fn bytes(line: &[u8], k: usize, room: &mut [u8]) -> usize
-    ensures { IsPrefixLen result room.new }
+    ensures { (result ≤ length room.new) × (result ≡ length (take result room.new)) }
 {
     let mut i = place(line, k);
     let mut n = 0;

@@ -2,9 +2,16 @@
 use crate::speak::{say_at, say_end, say_message, say_type};
 use crate::texts::{part, text};
 use show::{say, say_number};
+use std::io;
+use std::io::Print;
 
 // Pool 2001:db8:0:aa00::/56, S 56, D 60, preferred 601, valid 900, exclusion on.
-pub fn box_starts(table: &mut [u8; 39344], duid: &[u8], time: u64) {
+pub fn box_starts(
+    rt: &impl Print,
+    table: &mut [u8; 39344],
+    duid: &[u8],
+    time: u64,
+) -> io::Result<()> {
     let word = delegator::opening::start(
         table,
         0x2001_0db8_0000_aa00,
@@ -18,47 +25,55 @@ pub fn box_starts(table: &mut [u8; 39344], duid: &[u8], time: u64) {
         duid,
         time,
     );
-    say_at(time, b" box starts, DUID of ");
-    say_number(duid.len());
-    say(b" bytes");
-    say_end(word, duid, b"done");
+    say_at(rt, time, b" box starts, DUID of ")?;
+    say_number(rt, duid.len())?;
+    say(rt, b" bytes")?;
+    say_end(rt, word, duid, b"done")
 }
 
 pub fn box_hears(
+    rt: &impl Print,
     table: &mut [u8; 39344],
     time: u64,
     msg: &[u8],
     how: &[u8],
     answer: &mut [u8; 512],
-) -> u64 {
+) -> io::Result<u64> {
     let word = delegator::handling::handle(table, time, msg, answer);
-    say_at(time, b" box hears: ");
-    say_message(msg, how);
-    say_end(word, text(answer, word), b"done");
-    word
+    say_at(rt, time, b" box hears: ")?;
+    say_message(rt, msg, how)?;
+    say_end(rt, word, text(answer, word), b"done")?;
+    Ok(word)
 }
 
-pub fn box_counts(table: &[u8; 39344], time: u64) {
-    say_at(time, b" box has live: ");
-    say_number(delegator::showing::live(table, time) as usize);
-    say(b"\n");
+pub fn box_counts(rt: &impl Print, table: &[u8; 39344], time: u64) -> io::Result<()> {
+    say_at(rt, time, b" box has live: ")?;
+    say_number(rt, delegator::showing::live(table, time) as usize)?;
+    say(rt, b"\n")
 }
 
 // The first record, up to a DUID's first ten bytes.
-pub fn box_shows(table: &[u8; 39344], time: u64) {
+pub fn box_shows(rt: &impl Print, table: &[u8; 39344], time: u64) -> io::Result<()> {
     let mut room = [0u8; 153];
     let word = delegator::showing::record_at(table, 0, &mut room);
-    say_at(time, b" box's first record");
-    say_end(word, part(&room, 33), b"none");
+    say_at(rt, time, b" box's first record")?;
+    say_end(rt, word, part(&room, 33), b"none")
 }
 
-pub fn router_starts(state: &mut [u8; 384], duid: &[u8], iaid: u32, wanted: u64, time: u64) {
+pub fn router_starts(
+    rt: &impl Print,
+    state: &mut [u8; 384],
+    duid: &[u8],
+    iaid: u32,
+    wanted: u64,
+    time: u64,
+) -> io::Result<()> {
     let word = requester::opening::start(state, duid, iaid, wanted, time);
-    say_at(time, b" router starts, DUID of ");
-    say_number(duid.len());
-    say(b" bytes, wanted length ");
-    say_number(wanted as usize);
-    say_end(word, duid, b"done");
+    say_at(rt, time, b" router starts, DUID of ")?;
+    say_number(rt, duid.len())?;
+    say(rt, b" bytes, wanted length ")?;
+    say_number(rt, wanted as usize)?;
+    say_end(rt, word, duid, b"done")
 }
 
 fn send(state: &mut [u8; 384], kind: u8, time: u64, room: &mut [u8; 512]) -> u64 {
@@ -77,47 +92,71 @@ fn send(state: &mut [u8; 384], kind: u8, time: u64, room: &mut [u8; 512]) -> u64
     requester::asking::release(state, time, room)
 }
 
-pub fn router_sends(state: &mut [u8; 384], kind: u8, time: u64, room: &mut [u8; 512]) -> u64 {
+pub fn router_sends(
+    rt: &impl Print,
+    state: &mut [u8; 384],
+    kind: u8,
+    time: u64,
+    room: &mut [u8; 512],
+) -> io::Result<u64> {
     let word = send(state, kind, time, room);
-    say_at(time, b" router sends a ");
-    say_type(kind);
-    say_end(word, text(room, word), b"done");
-    word
+    say_at(rt, time, b" router sends a ")?;
+    say_type(rt, kind)?;
+    say_end(rt, word, text(room, word), b"done")?;
+    Ok(word)
 }
 
-pub fn router_resends(state: &mut [u8; 384], time: u64, room: &mut [u8; 512]) -> u64 {
+pub fn router_resends(
+    rt: &impl Print,
+    state: &mut [u8; 384],
+    time: u64,
+    room: &mut [u8; 512],
+) -> io::Result<u64> {
     let word = requester::asking::resend(state, time, room);
-    say_at(time, b" router sends it again");
-    say_end(word, text(room, word), b"done");
-    word
+    say_at(rt, time, b" router sends it again")?;
+    say_end(rt, word, text(room, word), b"done")?;
+    Ok(word)
 }
 
-pub fn router_abandons(state: &mut [u8; 384], time: u64) {
+pub fn router_abandons(rt: &impl Print, state: &mut [u8; 384], time: u64) -> io::Result<()> {
     let word = requester::asking::abandon(state, time);
-    say_at(time, b" router abandons it");
-    say_end(word, b"-", b"done");
+    say_at(rt, time, b" router abandons it")?;
+    say_end(rt, word, b"-", b"done")
 }
 
-pub fn router_hears(state: &mut [u8; 384], time: u64, msg: &[u8], how: &[u8]) {
+pub fn router_hears(
+    rt: &impl Print,
+    state: &mut [u8; 384],
+    time: u64,
+    msg: &[u8],
+    how: &[u8],
+) -> io::Result<()> {
     let word = requester::hearing::receive(state, time, msg);
-    say_at(time, b" router hears: ");
-    say_message(msg, how);
-    say_end(word, msg, b"done");
+    say_at(rt, time, b" router hears: ")?;
+    say_message(rt, msg, how)?;
+    say_end(rt, word, msg, b"done")
 }
 
-pub fn router_holds(state: &[u8; 384], time: u64) {
+pub fn router_holds(rt: &impl Print, state: &[u8; 384], time: u64) -> io::Result<()> {
     let mut room = [0u8; 42];
     let word = requester::showing::held(state, time, &mut room);
-    say_at(time, b" router holds");
-    say_end(word, &room, b"nothing");
+    say_at(rt, time, b" router holds")?;
+    say_end(rt, word, &room, b"nothing")
 }
 
 // A whole exchange: sent at one second, answered and heard at another.
-pub fn exchange(state: &mut [u8; 384], table: &mut [u8; 39344], kind: u8, sent: u64, heard: u64) {
+pub fn exchange(
+    rt: &impl Print,
+    state: &mut [u8; 384],
+    table: &mut [u8; 39344],
+    kind: u8,
+    sent: u64,
+    heard: u64,
+) -> io::Result<()> {
     let mut room = [0u8; 512];
     let mut answer = [0u8; 512];
-    let word = router_sends(state, kind, sent, &mut room);
-    let back = box_hears(table, heard, text(&room, word), b"", &mut answer);
-    router_hears(state, heard, text(&answer, back), b"");
-    router_holds(state, heard);
+    let word = router_sends(rt, state, kind, sent, &mut room)?;
+    let back = box_hears(rt, table, heard, text(&room, word), b"", &mut answer)?;
+    router_hears(rt, state, heard, text(&answer, back), b"")?;
+    router_holds(rt, state, heard)
 }

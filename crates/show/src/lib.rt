@@ -1,20 +1,28 @@
 // What a program prints: text, numbers in decimal, and bytes in hexadecimal.
 #![tactic(auto)]
 
-use libc::STDOUT_FILENO;
+ghost use Rattle.std.specs.Prelude.{◌<◌};
 
-pub fn say(text: &[u8]) {
-    io::write_all(STDOUT_FILENO, text);
+use std::io;
+use std::io::Print;
+
+pub fn say(rt: &impl Print, text: &[u8]) -> io::Result<()> {
+    rt.write_all(text)
 }
 
-pub fn say_number(n: usize) {
-    io::print_decimal(STDOUT_FILENO, n as u64);
+pub fn say_number(rt: &impl Print, n: usize) -> io::Result<()> {
+    rt.print(n)
 }
 
-pub fn say_hex(b: &[u8]) {
-    let mut i = 0;
-    while i < b.len() {
-        io::print_hex(STDOUT_FILENO, cells::wide(b[i]), 2);
-        i += 1;
+fn digit(d: u8) -> u8
+    requires { d < 16 }
+{
+    if d < 10 { b'0' + d } else { b'a' + (d - 10) }
+}
+
+pub fn say_hex(rt: &impl Print, b: &[u8]) -> io::Result<()> {
+    for x in b {
+        rt.write_all(&[digit(*x / 16), digit(*x % 16)])?;
     }
+    Ok(())
 }

@@ -1,9 +1,10 @@
 // Runs the marked examples of single options, and the boundaries of lengths, with the proved code, and prints what came out.
 #![tactic(auto)]
 
-use libc::STDOUT_FILENO;
 use lone::{IdRead, MessageRead};
 use show::{say, say_hex, say_number};
+use std::io;
+use std::io::Print;
 
 const HOME: u64 = 0x2001_0db8_dead_bee0;
 
@@ -22,50 +23,50 @@ fn bits(upper: u64, lower: u64) -> [u8; 16] {
 }
 
 // What a PD Exclude inside p of length a reads as: the excluded prefix, or the number that refuses it.
-fn exclude(name: &[u8], p: u64, a: usize, text: &[u8]) {
+fn exclude(rt: &impl Print, name: &[u8], p: u64, a: usize, text: &[u8]) -> io::Result<()> {
     let r = lone::read_exclude(bits(p, 0), a, text);
     let no = r.refusal;
     let out = r.bits;
-    say(name);
-    say(b" ");
-    say_hex(text);
+    say(rt, name)?;
+    say(rt, b" ")?;
+    say_hex(rt, text)?;
     if no == 0 {
-        say(b" reads as ");
-        say_hex(&out);
-        say(b"/");
-        say_number(r.length);
+        say(rt, b" reads as ")?;
+        say_hex(rt, &out)?;
+        say(rt, b"/")?;
+        say_number(rt, r.length)?;
     } else {
-        say(b" is refused: ");
-        say_number(no as usize);
+        say(rt, b" is refused: ")?;
+        say_number(rt, no as usize)?;
     }
-    say(b"\n");
+    say(rt, b"\n")
 }
 
 // What the PD Exclude for e of length b inside p of length a is written as, into eight bytes of ee: the room, or the number
 // that refuses it.
-fn write(name: &[u8], p: u64, a: usize, e: [u8; 16], b: usize) {
+fn write(rt: &impl Print, name: &[u8], p: u64, a: usize, e: [u8; 16], b: usize) -> io::Result<()> {
     let mut room = [0xeeu8; 8];
     let word = print::lone::write_exclude(&mut room, bits(p, 0), a, e, b);
-    say(name);
+    say(rt, name)?;
     if word < 65536 {
-        say(b" writes ");
+        say(rt, b" writes ")?;
     } else {
-        say(b" is not written: ");
-        io::print_decimal(STDOUT_FILENO, word / 65536);
-        say(b", room ");
+        say(rt, b" is not written: ")?;
+        rt.print(word / 65536)?;
+        say(rt, b", room ")?;
     }
-    say_hex(&room);
-    say(b"\n");
+    say_hex(rt, &room)?;
+    say(rt, b"\n")
 }
 
 // How a message reads.
-fn message(bytes: &[u8]) {
-    say(b"a message of ");
-    say_number(bytes.len());
+fn message(rt: &impl Print, bytes: &[u8]) -> io::Result<()> {
+    say(rt, b"a message of ")?;
+    say_number(rt, bytes.len())?;
     match lone::read_message(bytes) {
         MessageRead::Refused(no) => {
-            say(b" bytes is refused: ");
-            say_number(no as usize);
+            say(rt, b" bytes is refused: ")?;
+            say_number(rt, no as usize)?;
         }
         MessageRead::Message {
             kind: _,
@@ -77,78 +78,78 @@ fn message(bytes: &[u8]) {
             pds: _,
             pd: _,
         } => {
-            say(b" bytes is read, with Client IDs: ");
-            say_number(clients);
+            say(rt, b" bytes is read, with Client IDs: ")?;
+            say_number(rt, clients)?;
         }
     }
-    say(b"\n");
+    say(rt, b"\n")
 }
 
 // How a Client ID reads, alone.
-fn client(bytes: &[u8]) {
-    say(b"a Client ID option of ");
-    say_number(bytes.len());
+fn client(rt: &impl Print, bytes: &[u8]) -> io::Result<()> {
+    say(rt, b"a Client ID option of ")?;
+    say_number(rt, bytes.len())?;
     match lone::read_id(bytes, 1) {
         IdRead::Refused(no) => {
-            say(b" bytes is refused: ");
-            say_number(no as usize);
+            say(rt, b" bytes is refused: ")?;
+            say_number(rt, no as usize)?;
         }
         IdRead::Duid { start, len } => {
-            say(b" bytes stands at ");
-            say_number(start);
-            say(b", length ");
-            say_number(len);
+            say(rt, b" bytes stands at ")?;
+            say_number(rt, start)?;
+            say(rt, b", length ")?;
+            say_number(rt, len)?;
         }
     }
-    say(b"\n");
+    say(rt, b"\n")
 }
 
-fn examples() {
-    exclude(b"E1", HOME, 59, b"\x00\x43\x00\x02\x40\x78");
-    exclude(b"E2", HOME, 59, b"\x00\x43\x00\x02\x41\x7c");
-    exclude(b"E3", HOME, 59, b"\x00\x43\x00\x02\x40\x79");
-    exclude(b"E4", HOME, 59, b"\x00\x43\x00\x02\x3b\x78");
-    exclude(b"E5", HOME, 59, b"\x00\x43\x00\x03\x40\x78\x00");
-    exclude(b"E6", ELSEWHERE, 48, b"\x00\x43\x00\x03\x40\x12\x34");
+fn examples(rt: &impl Print) -> io::Result<()> {
+    exclude(rt, b"E1", HOME, 59, b"\x00\x43\x00\x02\x40\x78")?;
+    exclude(rt, b"E2", HOME, 59, b"\x00\x43\x00\x02\x41\x7c")?;
+    exclude(rt, b"E3", HOME, 59, b"\x00\x43\x00\x02\x40\x79")?;
+    exclude(rt, b"E4", HOME, 59, b"\x00\x43\x00\x02\x3b\x78")?;
+    exclude(rt, b"E5", HOME, 59, b"\x00\x43\x00\x03\x40\x78\x00")?;
+    exclude(rt, b"E6", ELSEWHERE, 48, b"\x00\x43\x00\x03\x40\x12\x34")
 }
 
-fn writings() {
-    write(b"E1", HOME, 59, bits(LAST, 0), 64);
-    write(b"E2", HOME, 59, bits(LAST, 0x8000_0000_0000_0000), 65);
-    write(b"E4", HOME, 59, bits(HOME, 0), 59);
-    write(b"E6", ELSEWHERE, 48, bits(THERE, 0), 64);
-    write(b"another's", ELSEWHERE, 48, bits(LAST, 0), 64);
-    write(b"nine bytes", ELSEWHERE, 48, bits(THERE, 0), 81);
+fn writings(rt: &impl Print) -> io::Result<()> {
+    write(rt, b"E1", HOME, 59, bits(LAST, 0), 64)?;
+    write(rt, b"E2", HOME, 59, bits(LAST, 0x8000_0000_0000_0000), 65)?;
+    write(rt, b"E4", HOME, 59, bits(HOME, 0), 59)?;
+    write(rt, b"E6", ELSEWHERE, 48, bits(THERE, 0), 64)?;
+    write(rt, b"another's", ELSEWHERE, 48, bits(LAST, 0), 64)?;
+    write(rt, b"nine bytes", ELSEWHERE, 48, bits(THERE, 0), 81)
 }
 
 // Zeros read as type 0 and empty options of code 0, which the reader skips.
-fn messages() {
-    message(&[0u8; 3]);
-    message(&[0u8; 4]);
-    message(&[0u8; 1232]);
-    message(&[0u8; 1233]);
+fn messages(rt: &impl Print) -> io::Result<()> {
+    message(rt, &[0u8; 3])?;
+    message(rt, &[0u8; 4])?;
+    message(rt, &[0u8; 1232])?;
+    message(rt, &[0u8; 1233])
 }
 
-fn clients() {
-    client(b"\x00\x01\x00\x02\x07\x07");
-    client(b"\x00\x01\x00\x03\x07\x07\x07");
+fn clients(rt: &impl Print) -> io::Result<()> {
+    client(rt, b"\x00\x01\x00\x02\x07\x07")?;
+    client(rt, b"\x00\x01\x00\x03\x07\x07\x07")?;
     let mut longest = [7u8; 134];
     longest[0] = 0;
     longest[1] = 1;
     longest[2] = 0;
     longest[3] = 130;
-    client(&longest);
+    client(rt, &longest)?;
     let mut beyond = [7u8; 135];
     beyond[0] = 0;
     beyond[1] = 1;
     beyond[2] = 0;
     beyond[3] = 131;
-    client(&beyond);
+    client(rt, &beyond)
 }
 
-fn main() {
-    examples();
-    writings();
-    messages();
-    clients();
+fn main(rt: HostRuntime) -> io::Result<()> {
+    examples(&rt)?;
+    writings(&rt)?;
+    messages(&rt)?;
+    clients(&rt)
 }
