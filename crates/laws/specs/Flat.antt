@@ -17,7 +17,7 @@ use borrow.Author.Tests.{eqb-true, eqb-false, eq-eqb, leb-true, le-leb, ltb-true
 use Rattle.rules.specs.Words.{all, no_two, each, from, part, filled, same_bytes, be, num_at}
 use Rattle.rules.specs.Prefix.{Prefix, prefix, zero_after, inside, same_prefix, last64, fits, except_for}
 use Rattle.rules.specs.Clock.{for_ever, good_end}
-use Rattle.rules.specs.Identity.{identity, good_duid}
+use Rattle.rules.specs.Identity.{good_duid}
 use Rattle.rules.specs.Settings.{Settings, good_settings}
 use Rattle.rules.specs.Table.{may_stand, good_except, good_record, sound}
 use Rattle.rules.specs.TableBytes.{table_size, place, flag, is_some, record_bytes, header_bytes, table_bytes, record_of, row_at, record_at, settings_of, count_of, table_of, sound_bytes}

@@ -3,7 +3,7 @@
 --   server_given, hold_given  the server to remember, or the known one where none is given; a new hold
 --   onto, ..-written        writes, one after another
 --   begin-.., again-.., close-made, accept-.., start-made, hold-..   the writes of each change, by the way that code takes
-use Rattle.std.specs.Prelude.{◌≡◌, Bool, cond, ◌||◌, List, [], ◌∷◌, ◌++◌, map, ℕ, ◌+◌, ◌-◌, ◌%◌, ◌≤◌, ◌<◌, ◌^◌, length, take, drop, set, replicate}
+use Rattle.std.specs.Prelude.{◌≡◌, Bool, cond, ◌||◌, List, [], ◌∷◌, ◌++◌, map, ℕ, ◌+◌, ◌%◌, ◌≤◌, ◌<◌, ◌^◌, length, take, drop, set, replicate}
 use Rattle.std.proofs.Math.Path.{refl, sym, ap}
 use Rattle.std.proofs.Common.{◌∙◌, subst, arith, take-take}
 use Rattle.std.proofs.Math.Bool.{true, false, or_assoc}

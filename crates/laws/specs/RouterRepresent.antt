@@ -12,7 +12,7 @@ use Rattle.std.proofs.Math.ListN.{length}
 use Rattle.std.proofs.Math.Seq.{take_all}
 use borrow.Author.Tests.{ne_eqb, leb-true, le-leb, ltb-true}
 use Rattle.rules.specs.Words.{part, splice, filled, same_bytes, num, be, num_at}
-use Rattle.rules.specs.Prefix.{Prefix, prefix, front, zero_after, fits, encodable, inside, Lease, lease, lease_encodable}
+use Rattle.rules.specs.Prefix.{Prefix, prefix, front, zero_after, fits, encodable, inside, Lease, lease_encodable}
 use Rattle.rules.specs.Clock.{good_end}
 use Rattle.rules.specs.Identity.{Duid, identity, good_duid, good_identity, kind_of, type_of}
 use Rattle.rules.specs.Router.{Hold, Exchange, Router, known, good_lease, good_server, good_hold, good_sent, wants_server, good_exchange, sound_router}

@@ -17,15 +17,11 @@ use Rattle.narrow.specs.Single.{Single, Sixteen, ExcludeBeside, Arrays, PrefixBe
 use Rattle.lone.specs.Answers.{unless_no, id_value, id_fills, request_value, status_value, exclude_value, ExcludeRest, prefix_value, PrefixRest, pd_value, message_value}
 use Rattle.lone.specs.declared.IdRead as id
 use Rattle.lone.specs.declared.IdRead.TheVariants as id'
-use Rattle.lone.specs.declared.RequestRead as request
 use Rattle.lone.specs.declared.RequestRead.TheVariants as request'
-use Rattle.lone.specs.declared.StatusRead as status
 use Rattle.lone.specs.declared.StatusRead.TheVariants as status'
 use Rattle.lone.specs.declared.ExcludeRead.{ExcludeRead}
 use Rattle.lone.specs.declared.PrefixRead.{PrefixRead}
-use Rattle.lone.specs.declared.PdRead as pd
 use Rattle.lone.specs.declared.PdRead.TheVariants as pd'
-use Rattle.lone.specs.declared.MessageRead as message
 use Rattle.lone.specs.declared.MessageRead.TheVariants as message'
 
 -- ---------------------------------------------------------------- the law

@@ -1,5 +1,5 @@
 -- What the box tells: a message that it serves meets what Readings says of it.
-use Rattle.std.specs.Prelude.{ℕ, ◌+◌, ◌-◌, ◌≤◌, ◌<◌, ◌≡◌, Bool, cond, ◌⊎◌, eqb, get_or}
+use Rattle.std.specs.Prelude.{ℕ, ◌+◌, ◌≤◌, ◌<◌, ◌≡◌, Bool, cond, ◌⊎◌, eqb, get_or}
 use Rattle.std.proofs.Math.Path.{refl, sym, ap, subst}
 use Rattle.std.proofs.Common.{◌∙◌, true≢false, arith, lt-ltb}
 use Rattle.std.proofs.Math.Bool.{true, false, not}
@@ -9,7 +9,7 @@ use Rattle.std.proofs.Math.Logic.{inl, inr}
 use Rattle.std.proofs.Math.Option.{Option, none, some, none-ne-some}
 use Rattle.rules.specs.Words.{keep, first, cons_if}
 use Rattle.rules.specs.Refusals.{done}
-use Rattle.rules.specs.Prefix.{Prefix, Lease, lease}
+use Rattle.rules.specs.Prefix.{Prefix, Lease}
 use Rattle.rules.specs.Message.{Listed, Message, read, print}
 use Rattle.rules.specs.Clock.{Moment, Lifetime, for_ever, never, plus}
 use Rattle.rules.specs.Identity.{Identity, kind_of, answer_type, served, is_release}

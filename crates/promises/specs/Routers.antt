@@ -8,12 +8,12 @@ use Rattle.std.proofs.Math.Option.{Option, none, some, none-ne-some}
 use native.Mathlib.Omega.{arith}
 use Rattle.rules.specs.Words.{all, first, same_bytes}
 use Rattle.rules.specs.Refusals.{done, wrong_size}
-use Rattle.rules.specs.Prefix.{Lease, lease}
+use Rattle.rules.specs.Prefix.{Lease}
 use Rattle.rules.specs.Message.{Listed, Ia, read, well_formed, print}
 use Rattle.rules.specs.Clock.{Moment, Lifetime, plus}
 use Rattle.rules.specs.Identity.{Duid, Identity, identity, type_of, kind_of, answer_type, is_release, stands}
 use Rattle.rules.specs.Box.{start_tests, client_of, ia_of}
-use Rattle.rules.specs.Router.{Hold, Exchange, Router, good_asker, sound_router, number_before, query, holds, allows, is_open, exchange_for, begun, again, closed, good_ia, good_ias, may_offer, from_server, awaited, takes, taken, held_after, accept, router_start, send_tests, router_send, resend_tests, open_of, router_resend, abandon_tests, router_abandon, receive_tests, router_receive}
+use Rattle.rules.specs.Router.{Hold, Exchange, Router, good_asker, sound_router, number_before, query, allows, is_open, exchange_for, begun, again, closed, good_ia, good_ias, may_offer, from_server, awaited, takes, taken, held_after, accept, router_start, send_tests, router_send, resend_tests, open_of, router_resend, abandon_tests, router_abandon, receive_tests, router_receive}
 use Rattle.rules.specs.declared.Kind.{Kind}
 use Rattle.rules.specs.declared.Kind.TheVariants.{Solicit, Request, Renew, Rebind, Release}
 use Rattle.laws.specs.Tests.{both, neither}

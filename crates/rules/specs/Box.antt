@@ -5,7 +5,7 @@
 --   form_tests, id_tests, pd_tests, silence_tests   the refusals by what is judged
 --   message_tests, box_tests                      all of them, in their order
 --   box_start, box_handle, box_live   the operations
-use Rattle.std.specs.Prelude.{ℕ, ◌+◌, ◌*◌, ◌/◌, Bool, true, false, cond, not, ◌&&◌, List, [], ◌∷◌, ◌++◌, map, eqb, leb, ltb, length, get_or}
+use Rattle.std.specs.Prelude.{ℕ, ◌*◌, ◌/◌, Bool, true, false, cond, not, ◌&&◌, List, [], ◌∷◌, ◌++◌, map, eqb, leb, ltb, length, get_or}
 use Rattle.std.proofs.Math.Option.{Option, none, some}
 use Rattle.rules.specs.Words.{all, any, keep, first}
 use Rattle.rules.specs.Refusals.{Res, done, unless, bad_time, lent_tests, room_tests, wrong_size}

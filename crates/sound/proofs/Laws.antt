@@ -12,7 +12,7 @@ use Prim.Native.Nat.{ℕ, ◌+◌, ◌-◌, ◌≤◌, ◌<◌, ◌^◌}
 use native.Mathlib.Nat.{add-sub_cancel_left}
 use lib.Dec.{eqb, leb, ltb}
 use lib.ListN.{length, take, drop}
-use borrow.Author.Tests.{le-leb, lt-leb, not-true, not-false}
+use borrow.Author.Tests.{le-leb, lt-leb}
 use Rattle.rules.specs.Words.{all, no_two, from, part, splice, num_at}
 use Rattle.rules.specs.Prefix.{zero_after, inside}
 use Rattle.rules.specs.Clock.{good_end}

@@ -11,7 +11,7 @@ use lib.ListN.{length, get_or, take, drop}
 use Rattle.rules.specs.Words.{part, num, be, num_at, u16_at}
 use Rattle.rules.specs.Prefix.{prefix, content_ok, unpacked}
 use Rattle.rules.specs.Options.{in_any, exclude_ok, own, area_of, count, nth, content}
-use Rattle.rules.specs.Message.{except_at, listed_at, top, read}
+use Rattle.rules.specs.Message.{except_at, listed_at, top}
 use Rattle.rules.specs.declared.Level.{Level}
 use Rattle.rules.specs.declared.Level.TheVariants.{Top, InPd, InPrefix}
 use Rattle.rules.specs.declared.Checked.{Checked}

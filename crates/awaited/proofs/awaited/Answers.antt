@@ -12,7 +12,7 @@ pub returns-then-kind-formed : goal.returns-then-kind-formed
 returns-then-kind-formed c = not-awaited _ _ c.get-kind.ensures.0 c.formed.ensures c.if-kind-formed.true
 
 pub answers-requires : goal.answers-requires
-answers-requires c = 
+answers-requires c =
     let facts : (c.get-kind.result ≡ 0 → ⊥) × (4 ≤ length c.args.msg.now) × (well_formed c.args.msg.now ≡ true) = passed c.args.t.now _ c.get-kind.ensures.0 c.formed.ensures c.if-kind-formed.false in
     (lent_length _ c.requires, facts.1)
 
@@ -23,7 +23,7 @@ pub from_server-requires : goal.from_server-requires
 from_server-requires c = server-in _ c.requires
 
 pub offers-requires : goal.offers-requires
-offers-requires c = 
+offers-requires c =
     let facts : (c.get-kind.result ≡ 0 → ⊥) × (4 ≤ length c.args.msg.now) × (well_formed c.args.msg.now ≡ true) = passed c.args.t.now _ c.get-kind.ensures.0 c.formed.ensures c.if-kind-formed.false in
     (lent_length _ c.requires, facts.2, kind-served _ c.requires c.get-kind.ensures.0 facts.0)
 

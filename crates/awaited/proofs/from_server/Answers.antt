@@ -6,12 +6,12 @@ use Rattle.awaited.proofs.Laws.{server-one, server-other}
 use Rattle.awaited.proofs.from_server.Goals as goal
 
 pub is_duid-known-requires : goal.is_duid-known-requires
-is_duid-known-requires c = 
+is_duid-known-requires c =
     let was : only_of 2 c.args.msg.now ≡ At c.in-At.place c.in-At.start c.in-At.len = cc in
     (c.requires, only-inside _ _ was)
 
 pub returns-in-At : goal.returns-in-At
-returns-in-At c = 
+returns-in-At c =
     let was : only_of 2 c.args.msg.now ≡ At c.in-At.place c.in-At.start c.in-At.len = cc in
     server-one _ _ c.args.kind (only-inside _ _ was) was c.is_duid-known.ensures
 

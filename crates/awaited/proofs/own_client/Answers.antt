@@ -6,12 +6,12 @@ use Rattle.awaited.proofs.Laws.{client-one, client-other}
 use Rattle.awaited.proofs.own_client.Goals as goal
 
 pub is_duid-requires : goal.is_duid-requires
-is_duid-requires c = 
+is_duid-requires c =
     let was : only_of 1 c.args.msg.now ≡ At c.in-At.place c.in-At.start c.in-At.len = cc in
     (c.requires, only-inside _ _ was)
 
 pub returns-in-At : goal.returns-in-At
-returns-in-At c = 
+returns-in-At c =
     let was : only_of 1 c.args.msg.now ≡ At c.in-At.place c.in-At.start c.in-At.len = cc in
     client-one _ _ was c.is_duid.ensures
 

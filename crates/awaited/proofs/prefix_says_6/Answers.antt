@@ -1,4 +1,4 @@
-use Rattle.std.proofs.Common.{◌∙◌, sym, ◌-◌}
+use Rattle.std.proofs.Common.{◌∙◌, sym}
 use Rattle.awaited.proofs.Laws.{found_within, left_end, left-hit, left-miss, left-start}
 use Rattle.awaited.proofs.prefix_says_6.Goals as goal
 

@@ -1,4 +1,4 @@
-use Rattle.std.proofs.Common.{refl, ◌-◌, arith}
+use Rattle.std.proofs.Common.{refl, arith}
 use borrow.Author.Rules.{rules, Fits-under}
 use Rattle.laws.specs.Tests.{false-true}
 use Rattle.distinct.proofs.Laws.{none-marked, byte-below, spot-asks, one-marked}

@@ -1,4 +1,4 @@
-use Rattle.std.proofs.Common.{◌-◌, arith}
+use Rattle.std.proofs.Common.{arith}
 use borrow.Author.Rules.{rules}
 use Rattle.distinct.proofs.Laws.{none_passed, one-passed, free-at}
 use Rattle.distinct.proofs.spot.Goals as goal

@@ -7,12 +7,12 @@ use Rattle.heard.proofs.Laws.{few-pds, other-pds, pd-asked}
 use Rattle.heard.proofs.asked_pd.Goals as goal
 
 pub pd_at-pd-requires : goal.pd_at-pd-requires
-pd_at-pd-requires c = 
+pd_at-pd-requires c =
     let was : only_of 25 c.args.msg.now ≡ At c.in-At.place c.in-At.start c.in-At.len = cc in
     pd-formed _ was c.requires.0
 
 pub returns-in-At : goal.returns-in-At
-returns-in-At c = 
+returns-in-At c =
     let was : only_of 25 c.args.msg.now ≡ At c.in-At.place c.in-At.start c.in-At.len = cc in
     (c.pd_at-pd.ensures.0 ∙ few-pds _ was, pd-asked _ was _ c.pd_at-pd.ensures.1)
 

@@ -9,12 +9,12 @@ pub returns-then-not-id_wanted : goal.returns-then-not-id_wanted
 returns-then-not-id_wanted c = hold-none c.args.own.now c.args.kind c.args.id c.args.msg.now c.id_wanted.ensures c.if-not-id_wanted.true c.requires.1.counts
 
 pub id_good-requires : goal.id_good-requires
-id_good-requires c = 
+id_good-requires c =
     let was : only_of (c.args.id + 1) c.args.msg.now ≡ At c.in-At.place c.in-At.start c.in-At.len = cc in
     only-inside _ _ was
 
 pub returns-in-At : goal.returns-in-At
-returns-in-At c = 
+returns-in-At c =
     let was : only_of (c.args.id + 1) c.args.msg.now ≡ At c.in-At.place c.in-At.start c.in-At.len = cc in
     hold-one c.args.own.now c.args.kind c.args.id c.args.msg.now c.id_wanted.ensures c.if-not-id_wanted.false was c.id_good.ensures
 

@@ -1,6 +1,5 @@
-use Rattle.std.proofs.Common.{◌≡◌, refl, ◌-◌, ◌≤◌, arith, length}
+use Rattle.std.proofs.Common.{◌≡◌, refl, ◌≤◌, arith, length}
 use borrow.Author.Rules.{rules}
-use Rattle.rules.specs.Box.{returned}
 use Rattle.values.specs.Listed.{rest_listed}
 use Rattle.listed.proofs.Laws.{all-put, all_done}
 use Rattle.listed.proofs.all_returned.Goals as goal
@@ -10,15 +9,14 @@ unfolding rest_listed
 loop-i-init c = (omega arith, search rules, refl)
 
 pub loop-i-preserved : goal.loop-i-preserved
-loop-i-preserved c = 
-    let long : c.args.n ≤ length c.args.ps = let l : length c.args.ps ≡ 5 = search rules in omega (arith, c.requires) in
-    (
-  search rules,
-  search rules,
-  all-put _ _ _ long _ _ c.loop-i-test.true (omega arith) c.returned.ensures c.loop-i.invariant.2,
-)
+loop-i-preserved c =
+    let long : c.args.n ≤ length c.args.ps = let l : length c.args.ps ≡ 5 = search rules in omega (arith, c.requires) in (
+      search rules,
+      search rules,
+      all-put _ _ _ long _ _ c.loop-i-test.true (omega arith) c.returned.ensures c.loop-i.invariant.2,
+    )
 
 pub returns : goal.returns
-returns c = 
+returns c =
     let long : c.args.n ≤ length c.args.ps = let l : length c.args.ps ≡ 5 = search rules in omega (arith, c.requires) in
     (all_done _ _ _ long _ c.loop-i.invariant.0 c.loop-i-test.false c.loop-i.invariant.2, search rules)

@@ -12,12 +12,12 @@ unfolding read_exclude
 returns-then-no-ne0 c = (simp (ne_eqb _ _ c.if-no-ne0.true) (refused (InPrefix c.args.a) 67 c.args.text.now c.refusal-no.ensures (λ t. unpacked (prefix (num c.args.p) c.args.a) (get_or t 4 0) (num_at t 5 (length t - 5))) c.if-no-ne0.true), inr (refl, refl))
 
 pub overflow_sub-text : goal.overflow_sub-text
-overflow_sub-text c = 
+overflow_sub-text c =
     let one : Alone (InPrefix c.args.a) 67 c.args.text.now = alone-is _ _ _ c.refusal-no.ensures c.if-no-ne0.false in
     omega (arith, one)
 
 pub cut_at-c-requires : goal.cut_at-c-requires
-cut_at-c-requires c = 
+cut_at-c-requires c =
     let one : Alone (InPrefix c.args.a) 67 c.args.text.now = alone-is _ _ _ c.refusal-no.ensures c.if-no-ne0.false in
     (omega (arith, one), judged-exclude c.args.text.now 0 0 4 (length c.args.text.now - 4) c.args.a one.good)
 

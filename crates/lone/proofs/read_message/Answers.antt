@@ -10,7 +10,7 @@ pub returns-then-wrong_size : goal.returns-then-wrong_size
 returns-then-wrong_size c = message-size _ c.wrong_size.ensures c.if-wrong_size.true
 
 pub returns-then-not-s : goal.returns-then-not-s
-returns-then-not-s c = 
+returns-then-not-s c =
     let right : wrong_size c.args.text.now ≡ false = sym c.wrong_size.ensures ∙ c.if-wrong_size.false in
     message-bad _ c.wrong_size.ensures c.if-wrong_size.false (formed-is _ _ c.notes_of-s.ensures right) (not-true _ c.if-not-s.true)
 
@@ -18,7 +18,7 @@ pub get-requires : goal.get-requires
 get-requires c = (sized c.args.text.now c.wrong_size.ensures c.if-wrong_size.false, search rules)
 
 pub returns : goal.returns
-returns c = 
+returns c =
     let right : wrong_size c.args.text.now ≡ false = sym c.wrong_size.ensures ∙ c.if-wrong_size.false in
     let w = formed-is c.args.text.now _ c.notes_of-s.ensures right in
     let f = not-false _ c.if-not-s.false in

@@ -8,19 +8,19 @@ pub returns-then-x-ne1 : goal.returns-then-x-ne1
 returns-then-x-ne1 c = noted_other c.args.msg.now c.args.x c.requires c.if-x-ne1.true
 
 pub overflow_add-result : goal.overflow_add-result
-overflow_add-result c = 
+overflow_add-result c =
     let was : c.args.x.first ≡ At c.in-At.place c.in-At.start c.in-At.len = cc in
     let inside : c.in-At.start + c.in-At.len ≤ length c.args.msg.now = noted-inside c.args.msg.now c.args.x c.requires was in
     omega (arith, inside)
 
 pub slice_bounds-result-end-in-At : goal.slice_bounds-result-end-in-At
-slice_bounds-result-end-in-At c = 
+slice_bounds-result-end-in-At c =
     let was : c.args.x.first ≡ At c.in-At.place c.in-At.start c.in-At.len = cc in
     let inside : c.in-At.start + c.in-At.len ≤ length c.args.msg.now = noted-inside c.args.msg.now c.args.x c.requires was in
     inside
 
 pub returns-in-At : goal.returns-in-At
-returns-in-At c = 
+returns-in-At c =
     let was : c.args.x.first ≡ At c.in-At.place c.in-At.start c.in-At.len = cc in
     stretch c.args.msg.now _ _ ∙ noted_one c.args.msg.now c.args.x c.requires c.if-x-ne1.false was
 

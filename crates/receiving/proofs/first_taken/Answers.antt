@@ -1,4 +1,4 @@
-use Rattle.std.proofs.Common.{◌∙◌, sym, ◌-◌}
+use Rattle.std.proofs.Common.{◌∙◌, sym}
 use Rattle.receiving.proofs.Laws.{found-listed, left_end, left-hit, left-miss, left-start}
 use Rattle.receiving.proofs.first_taken.Goals as goal
 

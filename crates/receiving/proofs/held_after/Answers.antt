@@ -13,12 +13,12 @@ pub get-began-requires : goal.get-began-requires
 get-began-requires c = omega (arith, lent_length _ c.requires.sound)
 
 pub taken-requires : goal.taken-requires
-taken-requires c = 
+taken-requires c =
     let was : only_of 25 c.args.msg.now ≡ At c.in-At.place c.in-At.start c.in-At.len = cc in
     (only-formed _ (facts c.requires).formed was, began-small c.requires c.get-began.ensures.0)
 
 pub returns-in-At : goal.returns-in-At
-returns-in-At c = 
+returns-in-At c =
     let was : only_of 25 c.args.msg.now ≡ At c.in-At.place c.in-At.start c.in-At.len = cc in
     held-taken c.requires _ c.if-kind.false c.get-began.ensures.0 was c.taken.ensures
 

@@ -4,12 +4,12 @@ use Rattle.receiving.proofs.Laws.{listed_found, taken-found, taken-nothing}
 use Rattle.receiving.proofs.is_taken.Goals as goal
 
 pub prefix_at-requires : goal.prefix_at-requires
-prefix_at-requires c = 
+prefix_at-requires c =
     let was : c.args.f ≡ At c.in-At.place c.in-At.start c.in-At.len = cc in
     listed_found _ was c.requires
 
 pub returns-in-At : goal.returns-in-At
-returns-in-At c = 
+returns-in-At c =
     let was : c.args.f ≡ At c.in-At.place c.in-At.start c.in-At.len = cc in
     taken-found _ c.prefix_at.result was c.prefix_at.ensures c.takes.ensures
 

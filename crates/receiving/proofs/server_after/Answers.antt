@@ -9,19 +9,19 @@ pub returns-then-kind : goal.returns-then-kind
 returns-then-kind c = server-kept c.args.kind c.args.msg.now c.if-kind.true
 
 pub overflow_add-result : goal.overflow_add-result
-overflow_add-result c = 
+overflow_add-result c =
     let was : only_of 2 c.args.msg.now ≡ At c.in-At.place c.in-At.start c.in-At.len = cc in
     let inside : c.in-At.start + c.in-At.len ≤ length c.args.msg.now = only-inside _ _ was in
     omega (arith, inside)
 
 pub slice_bounds-result-end-in-At : goal.slice_bounds-result-end-in-At
-slice_bounds-result-end-in-At c = 
+slice_bounds-result-end-in-At c =
     let was : only_of 2 c.args.msg.now ≡ At c.in-At.place c.in-At.start c.in-At.len = cc in
     let inside : c.in-At.start + c.in-At.len ≤ length c.args.msg.now = only-inside _ _ was in
     inside
 
 pub returns-in-At : goal.returns-in-At
-returns-in-At c = 
+returns-in-At c =
     let was : only_of 2 c.args.msg.now ≡ At c.in-At.place c.in-At.start c.in-At.len = cc in
     server-told c.args.kind c.args.msg.now c.if-kind.false was
 

@@ -31,10 +31,10 @@ returns-in-Bind c = (rw c.in-Bind.is (ap (λ x. x ∷ []) c.with_offer-in-Bind.e
 
 pub returns-in-Extend : goal.returns-in-Extend
 returns-in-Extend c = let o = others-back (lease_of c.in-Extend.lease).prefix c.args.q.prefixes c.args.q.count c.in-Extend.back c.taken.ensures in (
-      rw c.in-Extend.is (ap (λ x. x ∷ []) (c.with_offer-in-Extend.ensures.0 ∙ rw o)),
-      rw c.in-Extend.is (ap listed c.with_offer-in-Extend.ensures.0 ∙ rw o),
-      c.with_offer-in-Extend.ensures.1,
-    )
+  rw c.in-Extend.is (ap (λ x. x ∷ []) (c.with_offer-in-Extend.ensures.0 ∙ rw o)),
+  rw c.in-Extend.is (ap listed c.with_offer-in-Extend.ensures.0 ∙ rw o),
+  c.with_offer-in-Extend.ensures.1,
+)
 
 pub returns-in-Return : goal.returns-in-Return
 returns-in-Return c = (rw c.in-Return.is (ap (λ x. x ∷ []) c.with_returned.ensures.0), rw c.in-Return.is (ap listed c.with_returned.ensures.0), c.with_returned.ensures.1)

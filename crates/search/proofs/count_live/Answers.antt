@@ -1,4 +1,4 @@
-use Rattle.std.proofs.Common.{◌-◌, arith, zero-add}
+use Rattle.std.proofs.Common.{arith, zero-add}
 use borrow.Author.Rules.{rules}
 use Rattle.std.proofs.Math.Nat.{sub-zero}
 use Rattle.laws.specs.Records.{at_most_one, counted, all-counted}

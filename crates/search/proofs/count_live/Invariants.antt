@@ -2,7 +2,6 @@ use Rattle.std.proofs.Common.{◌≡◌, ◌+◌, ◌-◌, ◌≤◌, length}
 use Rattle.rules.specs.Words.{keep, from}
 use Rattle.rules.specs.Table.{live}
 use Rattle.rules.specs.TableBytes.{record_at}
-use Rattle.laws.specs.Records.{counted}
 use Rattle.search.proofs.count_live.Given as goal
 
 -- `count_live`: those counted, with those from i on, are all.

@@ -1,4 +1,4 @@
-use Rattle.std.proofs.Common.{sym, ◌∙◌, ◌-◌, arith}
+use Rattle.std.proofs.Common.{sym, ◌∙◌, arith}
 use borrow.Author.Rules.{rules}
 use Rattle.std.proofs.Math.Nat.{sub-zero}
 use Rattle.laws.specs.Loops.{place-turn, place_end}

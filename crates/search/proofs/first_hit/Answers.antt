@@ -1,7 +1,6 @@
-use Rattle.std.proofs.Common.{sym, ◌∙◌, ◌-◌, arith}
+use Rattle.std.proofs.Common.{sym, ◌∙◌, arith}
 use borrow.Author.Rules.{rules}
 use Rattle.std.proofs.Math.Nat.{sub-zero}
-use Rattle.rules.specs.Choose.{hits}
 use Rattle.laws.specs.Loops.{place-turn, place_end}
 use Rattle.search.proofs.first_hit.Goals as goal
 

@@ -1,8 +1,7 @@
-use Rattle.std.proofs.Common.{sym, ◌∙◌, ◌-◌, arith}
+use Rattle.std.proofs.Common.{sym, ◌∙◌, arith}
 use borrow.Author.Rules.{rules}
 use Rattle.std.proofs.Math.Nat.{sub-zero}
 use Rattle.laws.specs.Loops.{all-turn, all_end}
-use Rattle.laws.specs.Flat.{good_row}
 use Rattle.sound.proofs.rows_good.Goals as goal
 
 pub loop-i-init : goal.loop-i-init

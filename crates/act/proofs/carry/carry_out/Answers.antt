@@ -1,8 +1,3 @@
-use Rattle.act.proofs.carry.carry_out.Reads as reads
-use Rattle.act.proofs.carry.carry_out.Lts as lts
-use Rattle.leases.proofs.records.append.Reads as append-reads
-use Rattle.leases.proofs.records.extend_at.Reads as extend-at-reads
-use Rattle.leases.proofs.records.remove_at.Reads as remove-at-reads
 use Rattle.std.proofs.Common.{refl}
 use Rattle.act.proofs.Laws.{possible, carried, unchanged}
 use Rattle.act.proofs.carry.carry_out.Goals as goal

@@ -1,4 +1,4 @@
-use Rattle.std.proofs.Common.{refl, ◌-◌, arith}
+use Rattle.std.proofs.Common.{refl, arith}
 use Rattle.choose.proofs.Laws.{start, free, taken, full, on, less}
 use Rattle.choose.proofs.walk.lowest.Goals as goal
 

@@ -3,7 +3,6 @@ use Rattle.rules.specs.Words.{from}
 use Rattle.rules.specs.TableBytes.{record_at}
 use Rattle.laws.specs.Places.{Walking}
 use Rattle.choose.specs.Choice.{chooser}
-use Rattle.choose.proofs.Laws.{on}
 use Rattle.choose.proofs.walk.lowest.Given as goal
 
 -- `lowest`: from place k on the walk gives what the whole walk gives.

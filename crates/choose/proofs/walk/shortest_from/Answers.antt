@@ -1,4 +1,4 @@
-use Rattle.std.proofs.Common.{refl, sym, ap, ◌∙◌, ◌-◌, arith}
+use Rattle.std.proofs.Common.{refl, sym, ap, ◌∙◌, arith}
 use Rattle.laws.specs.Choosing.{longer-turn, longer-end}
 use Rattle.choose.specs.Choice.{spot_of}
 use Rattle.choose.proofs.walk.shortest_from.Goals as goal

@@ -1,4 +1,4 @@
-use Rattle.std.proofs.Common.{◌-◌, arith}
+use Rattle.std.proofs.Common.{arith}
 use lib.ListN.{length-set}
 use Rattle.day.proofs.Laws.{counted}
 use Rattle.day.proofs.words.bytes.Goals as goal

@@ -1,4 +1,4 @@
-use Rattle.std.proofs.Common.{refl, ◌-◌}
+use Rattle.std.proofs.Common.{refl}
 use Rattle.laws.specs.Rows.{going, going_on, gone-through}
 use Rattle.leases.proofs.ended.drop_ended.Goals as goal
 

@@ -4,22 +4,22 @@ use Rattle.leases.proofs.Laws.{tidy-made}
 use Rattle.leases.proofs.ended.tidy.Goals as goal
 
 pub get-n-requires : goal.get-n-requires
-get-n-requires c = 
+get-n-requires c =
     let lent : Held c.args.t.now = held c.args.t.now c.requires in
     let g = lent in search rules
 
 pub drop_ended-k-requires : goal.drop_ended-k-requires
-drop_ended-k-requires c = 
+drop_ended-k-requires c =
     let lent : Held c.args.t.now = held c.args.t.now c.requires in
     let g = lent in search rules
 
 pub put-requires : goal.put-requires
-put-requires c = 
+put-requires c =
     let lent : Held c.args.t.now = held c.args.t.now c.requires in
     let g = lent in search rules
 
 pub put-requires-2 : goal.put-requires-2
-put-requires-2 c = 
+put-requires-2 c =
     let lent : Held c.args.t.now = held c.args.t.now c.requires in
     let g = lent in search rules
 

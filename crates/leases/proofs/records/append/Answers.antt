@@ -4,17 +4,17 @@ use Rattle.leases.proofs.Laws.{append-made}
 use Rattle.leases.proofs.records.append.Goals as goal
 
 pub get-n-requires : goal.get-n-requires
-get-n-requires c = 
+get-n-requires c =
     let lent : Held c.args.t.now = held c.args.t.now c.requires.0 in
     let g = lent in search rules
 
 pub put_record-requires : goal.put_record-requires
-put_record-requires c = 
+put_record-requires c =
     let lent : Held c.args.t.now = held c.args.t.now c.requires.0 in
     let g = lent in search rules
 
 pub put-requires : goal.put-requires
-put-requires c = 
+put-requires c =
     let lent : Held c.args.t.now = held c.args.t.now c.requires.0 in
     let g = lent in search rules
 

@@ -4,7 +4,7 @@ use Rattle.leases.proofs.Laws.{extend-made}
 use Rattle.leases.proofs.records.extend_at.Goals as goal
 
 pub put-requires : goal.put-requires
-put-requires c = 
+put-requires c =
     let lent : Held c.args.t.now = held c.args.t.now c.requires.0 in
     let g = lent in search rules
 

@@ -4,22 +4,22 @@ use Rattle.leases.proofs.Laws.{remove-made}
 use Rattle.leases.proofs.records.remove_at.Goals as goal
 
 pub get-n-requires : goal.get-n-requires
-get-n-requires c = 
+get-n-requires c =
     let lent : Held c.args.t.now = held c.args.t.now c.requires.0 in
     let g = lent in search rules
 
 pub shift-requires : goal.shift-requires
-shift-requires c = 
+shift-requires c =
     let lent : Held c.args.t.now = held c.args.t.now c.requires.0 in
     let g = lent in search rules
 
 pub clear-requires : goal.clear-requires
-clear-requires c = 
+clear-requires c =
     let lent : Held c.args.t.now = held c.args.t.now c.requires.0 in
     let g = lent in search rules
 
 pub put-requires : goal.put-requires
-put-requires c = 
+put-requires c =
     let lent : Held c.args.t.now = held c.args.t.now c.requires.0 in
     let g = lent in search rules
 

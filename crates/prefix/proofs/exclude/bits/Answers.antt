@@ -1,4 +1,4 @@
-use Rattle.std.proofs.Common.{sym, ◌-◌, arith, get_or}
+use Rattle.std.proofs.Common.{sym, arith, get_or}
 use borrow.Author.Rules.{rules}
 use mir.Syntax.{w8}
 use mir.Val.{Fits}
@@ -6,7 +6,7 @@ use Rattle.laws.specs.Bits.{Sixteen, taken_none, taken-lt, taken_more, taken-all
 use Rattle.prefix.proofs.exclude.bits.Goals as goal
 
 pub returns-then-i-ge128 : goal.returns-then-i-ge128
-returns-then-i-ge128 c = 
+returns-then-i-ge128 c =
     let sixteen : Sixteen c.args.q = record { long = search rules; bytes = λ i. (let f : Fits w8 (get_or c.args.q i 0) = search rules in f.fits) } in
     sym (bits-past _ _ sixteen.long c.if-i-ge128.true)
 
@@ -20,7 +20,7 @@ pub overflow_add-v : goal.overflow_add-v
 overflow_add-v c = let f = taken-lt _ _ _ _ c.loop-k-test.true c.loop-k.invariant.1 in omega arith
 
 pub loop-k-preserved : goal.loop-k-preserved
-loop-k-preserved c = 
+loop-k-preserved c =
     let sixteen : Sixteen c.args.q = record { long = search rules; bytes = λ i. (let f : Fits w8 (get_or c.args.q i 0) = search rules in f.fits) } in
     (search rules, taken_more _ sixteen.bytes _ _ _ _ c.loop-k-test.true c.loop-k.invariant.1 c.bit.ensures.0)
 

@@ -1,7 +1,6 @@
 use Rattle.std.proofs.Common.{◌≡◌, ◌+◌, ◌-◌, ◌≤◌, length, drop}
 use Rattle.rules.specs.Words.{splice, num}
 use Rattle.rules.specs.Prefix.{prefix, bytes_for}
-use Rattle.laws.specs.Parts.{turn}
 use Rattle.laws.specs.Exclude.{packed_bytes}
 use Rattle.prefix.proofs.exclude.put_exclude.Given as goal
 

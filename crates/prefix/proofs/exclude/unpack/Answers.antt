@@ -1,4 +1,4 @@
-use Rattle.std.proofs.Common.{refl, ◌-◌, arith}
+use Rattle.std.proofs.Common.{refl, arith}
 use borrow.Author.Rules.{rules}
 use Rattle.rules.specs.Words.{be}
 use Rattle.laws.specs.Parts.{turn, done, none_left, splice_all}

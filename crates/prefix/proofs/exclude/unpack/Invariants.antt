@@ -1,7 +1,6 @@
 use Rattle.std.proofs.Common.{◌≡◌, ◌-◌, ◌≤◌, length}
 use Rattle.rules.specs.Words.{splice, num, be}
 use Rattle.rules.specs.Prefix.{prefix, unpacked}
-use Rattle.laws.specs.Parts.{turn}
 use Rattle.prefix.proofs.exclude.unpack.Given as goal
 
 -- `unpack` makes the sixteen bytes one a turn; what is left to make, made, is the whole.

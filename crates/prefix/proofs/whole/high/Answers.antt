@@ -7,6 +7,6 @@ use Rattle.laws.specs.Halves.{sixteen-upper}
 use Rattle.prefix.proofs.whole.high.Goals as goal
 
 pub returns : goal.returns
-returns c = 
+returns c =
     let sixteen : Sixteen c.args.q = record { long = search rules; bytes = λ i. (let f : Fits w8 (get_or c.args.q i 0) = search rules in f.fits) } in
     c.get.ensures.0 ∙ sixteen-upper _ sixteen

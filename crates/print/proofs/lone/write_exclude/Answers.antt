@@ -9,14 +9,14 @@ use Rattle.print.proofs.lone.write_exclude.Goals as goal
 
 pub returns-then-n-ne0 : goal.returns-then-n-ne0
 unfolding write_exclude
-returns-then-n-ne0 c = 
+returns-then-n-ne0 c =
     let judge : let p = prefix (num c.args.p) c.args.a in let e = prefix (num c.args.e) c.args.b in Judged (encodable p e) 67 (exclude_bytes c.args.a e) c.args.out.now c.refusal-n.result = let p = prefix (num c.args.p) c.args.a in
     let e = prefix (num c.args.e) c.args.b in
     judged 67 (exclude_bytes c.args.a e) c.args.out.now (exclude-able p e c.encodable.ensures) (c.exclude_size.ensures.0 ∙ sym (exclude-size c.args.a e)) c.refusal-n.ensures.0 in
     lone-refused judge c.if-n-ne0.true
 
 pub put_exclude-requires : goal.put_exclude-requires
-put_exclude-requires c = 
+put_exclude-requires c =
     let judge : let p = prefix (num c.args.p) c.args.a in let e = prefix (num c.args.e) c.args.b in Judged (encodable p e) 67 (exclude_bytes c.args.a e) c.args.out.now c.refusal-n.result = let p = prefix (num c.args.p) c.args.a in
     let e = prefix (num c.args.e) c.args.b in
     judged 67 (exclude_bytes c.args.a e) c.args.out.now (exclude-able p e c.encodable.ensures) (c.exclude_size.ensures.0 ∙ sym (exclude-size c.args.a e)) c.refusal-n.ensures.0 in
@@ -26,7 +26,7 @@ put_exclude-requires c =
 
 pub returns : goal.returns
 unfolding write_exclude
-returns c = 
+returns c =
     let judge : let p = prefix (num c.args.p) c.args.a in let e = prefix (num c.args.e) c.args.b in Judged (encodable p e) 67 (exclude_bytes c.args.a e) c.args.out.now c.refusal-n.result = let p = prefix (num c.args.p) c.args.a in
     let e = prefix (num c.args.e) c.args.b in
     judged 67 (exclude_bytes c.args.a e) c.args.out.now (exclude-able p e c.encodable.ensures) (c.exclude_size.ensures.0 ∙ sym (exclude-size c.args.a e)) c.refusal-n.ensures.0 in

@@ -7,18 +7,18 @@ use Rattle.print.proofs.lone.write_id.Goals as goal
 
 pub returns-then-n-ne0 : goal.returns-then-n-ne0
 unfolding write_id
-returns-then-n-ne0 c = 
+returns-then-n-ne0 c =
     let judge : Judged true c.args.code c.args.duid.now c.args.out.now c.refusal-n.result = judged c.args.code c.args.duid.now c.args.out.now refl (sym (option-length c.args.code c.args.duid.now)) c.refusal-n.ensures.0 in
     lone-refused judge c.if-n-ne0.true
 
 pub put_option-requires : goal.put_option-requires
-put_option-requires c = 
+put_option-requires c =
     let judge : Judged true c.args.code c.args.duid.now c.args.out.now c.refusal-n.result = judged c.args.code c.args.duid.now c.args.out.now refl (sym (option-length c.args.code c.args.duid.now)) c.refusal-n.ensures.0 in
     let a = lone-able judge c.if-n-ne0.false in search rules
 
 pub returns : goal.returns
 unfolding write_id
-returns c = 
+returns c =
     let judge : Judged true c.args.code c.args.duid.now c.args.out.now c.refusal-n.result = judged c.args.code c.args.duid.now c.args.out.now refl (sym (option-length c.args.code c.args.duid.now)) c.refusal-n.ensures.0 in
     lone-written judge c.if-n-ne0.false
     c.put_option.ensures

@@ -10,7 +10,7 @@ use Rattle.print.proofs.lone.write_pd.Goals as goal
 
 pub returns-then-n-ne0 : goal.returns-then-n-ne0
 unfolding write_pd
-returns-then-n-ne0 c = 
+returns-then-n-ne0 c =
     let iaid : c.args.d.iaid < 2 ^ 32 = search rules in
     let t1 : c.args.d.t1 < 2 ^ 32 = search rules in
     let t2 : c.args.d.t2 < 2 ^ 32 = search rules in
@@ -19,7 +19,7 @@ returns-then-n-ne0 c =
     lone-refused judge c.if-n-ne0.true
 
 pub put_pd-requires : goal.put_pd-requires
-put_pd-requires c = 
+put_pd-requires c =
     let iaid : c.args.d.iaid < 2 ^ 32 = search rules in
     let t1 : c.args.d.t1 < 2 ^ 32 = search rules in
     let t2 : c.args.d.t2 < 2 ^ 32 = search rules in
@@ -30,7 +30,7 @@ put_pd-requires c =
 
 pub returns : goal.returns
 unfolding write_pd
-returns c = 
+returns c =
     let iaid : c.args.d.iaid < 2 ^ 32 = search rules in
     let t1 : c.args.d.t1 < 2 ^ 32 = search rules in
     let t2 : c.args.d.t2 < 2 ^ 32 = search rules in

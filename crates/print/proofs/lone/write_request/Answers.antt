@@ -10,13 +10,13 @@ use Rattle.print.proofs.lone.write_request.Goals as goal
 
 pub returns-then-n-ne0 : goal.returns-then-n-ne0
 unfolding write_request option
-returns-then-n-ne0 c = 
+returns-then-n-ne0 c =
     let judge : Judged true 6 (be16 67) c.args.out.now c.refusal-n.result = judged 6 (be16 67) c.args.out.now refl refl c.refusal-n.ensures.0 in
     lone-refused judge c.if-n-ne0.true
 
 pub put_asks-requires : goal.put_asks-requires
 unfolding option
-put_asks-requires c = 
+put_asks-requires c =
     let judge : Judged true 6 (be16 67) c.args.out.now c.refusal-n.result = judged 6 (be16 67) c.args.out.now refl refl c.refusal-n.ensures.0 in
     let a = lone-able judge c.if-n-ne0.false in
     let e = ap length (asks-yes {b = true} refl) in
@@ -24,7 +24,7 @@ put_asks-requires c =
 
 pub returns : goal.returns
 unfolding write_request option
-returns c = 
+returns c =
     let judge : Judged true 6 (be16 67) c.args.out.now c.refusal-n.result = judged 6 (be16 67) c.args.out.now refl refl c.refusal-n.ensures.0 in
     lone-written judge c.if-n-ne0.false
     (wrote_as (asks-yes refl) c.put_asks.ensures)

@@ -9,19 +9,19 @@ use Rattle.print.proofs.lone.write_status.Goals as goal
 
 pub returns-then-n-ne0 : goal.returns-then-n-ne0
 unfolding write_status
-returns-then-n-ne0 c = 
+returns-then-n-ne0 c =
     let judge : Judged (ltb c.args.k 65536) 13 (be16 c.args.k ++ name_of c.args.k) c.args.out.now c.refusal-n.result = judged 13 (be16 c.args.k ++ name_of c.args.k) c.args.out.now (status-able c.args.k) (c.status_size.ensures.0 ∙ ap length (status-named c.args.k c.args.k refl)) c.refusal-n.ensures.0 in
     lone-refused judge c.if-n-ne0.true
 
 pub put_status-requires : goal.put_status-requires
-put_status-requires c = 
+put_status-requires c =
     let judge : Judged (ltb c.args.k 65536) 13 (be16 c.args.k ++ name_of c.args.k) c.args.out.now c.refusal-n.result = judged 13 (be16 c.args.k ++ name_of c.args.k) c.args.out.now (status-able c.args.k) (c.status_size.ensures.0 ∙ ap length (status-named c.args.k c.args.k refl)) c.refusal-n.ensures.0 in
     let a = lone-able judge c.if-n-ne0.false in
     (ltb-true c.args.k 65536 a.0, rw (status-named c.args.k c.args.k refl, zero-add) a.2)
 
 pub returns : goal.returns
 unfolding write_status
-returns c = 
+returns c =
     let judge : Judged (ltb c.args.k 65536) 13 (be16 c.args.k ++ name_of c.args.k) c.args.out.now c.refusal-n.result = judged 13 (be16 c.args.k ++ name_of c.args.k) c.args.out.now (status-able c.args.k) (c.status_size.ensures.0 ∙ ap length (status-named c.args.k c.args.k refl)) c.refusal-n.ensures.0 in
     lone-written judge c.if-n-ne0.false
     (wrote_as (status-named _ _ refl) c.put_status.ensures)

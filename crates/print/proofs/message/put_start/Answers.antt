@@ -10,7 +10,7 @@ put_number-requires c = search rules
 
 pub returns : goal.returns
 unfolding be
-returns c = 
+returns c =
     let kind : c.args.kind < 256 = search rules in
     wrote_then (search rules) (wrote_as (be-8 _ kind) c.put_number-p.ensures)
     c.put_number.ensures

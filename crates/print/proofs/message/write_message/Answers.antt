@@ -9,23 +9,23 @@ use Rattle.print.proofs.Laws.{message-split, message-size}
 use Rattle.print.proofs.message.write_message.Goals as goal
 
 pub put_ids-p-requires : goal.put_ids-p-requires
-put_ids-p-requires c = 
+put_ids-p-requires c =
     let size : length (print (message_of c.args.h c.args.client.now c.args.server.now c.args.d)) ≡ length (ids_bytes c.args.h.kind c.args.h.number c.args.client.now c.args.h.server c.args.server.now) + (length (printed (asks_items c.args.h.asks)) + (length (said_bytes c.args.h.says c.args.h.status) + length (pd_bytes c.args.h.pd c.args.d))) = message-size _ _ _ _ in
     let m = size in search rules
 
 pub put_asks-q-requires : goal.put_asks-q-requires
-put_asks-q-requires c = 
+put_asks-q-requires c =
     let size : length (print (message_of c.args.h c.args.client.now c.args.server.now c.args.d)) ≡ length (ids_bytes c.args.h.kind c.args.h.number c.args.client.now c.args.h.server c.args.server.now) + (length (printed (asks_items c.args.h.asks)) + (length (said_bytes c.args.h.says c.args.h.status) + length (pd_bytes c.args.h.pd c.args.d))) = message-size _ _ _ _ in
     let m = size in search rules
 
 pub put_said-r-requires : goal.put_said-r-requires
-put_said-r-requires c = 
+put_said-r-requires c =
     let size : length (print (message_of c.args.h c.args.client.now c.args.server.now c.args.d)) ≡ length (ids_bytes c.args.h.kind c.args.h.number c.args.client.now c.args.h.server c.args.server.now) + (length (printed (asks_items c.args.h.asks)) + (length (said_bytes c.args.h.says c.args.h.status) + length (pd_bytes c.args.h.pd c.args.d))) = message-size _ _ _ _ in
     let m = size in
     search rules
 
 pub put_pds-requires : goal.put_pds-requires
-put_pds-requires c = 
+put_pds-requires c =
     let size : length (print (message_of c.args.h c.args.client.now c.args.server.now c.args.d)) ≡ length (ids_bytes c.args.h.kind c.args.h.number c.args.client.now c.args.h.server c.args.server.now) + (length (printed (asks_items c.args.h.asks)) + (length (said_bytes c.args.h.says c.args.h.status) + length (pd_bytes c.args.h.pd c.args.d))) = message-size _ _ _ _ in
     let m = size in (
       c.requires.3,
@@ -33,7 +33,7 @@ put_pds-requires c =
     )
 
 pub returns : goal.returns
-returns c = 
+returns c =
     let size : length (print (message_of c.args.h c.args.client.now c.args.server.now c.args.d)) ≡ length (ids_bytes c.args.h.kind c.args.h.number c.args.client.now c.args.h.server c.args.server.now) + (length (printed (asks_items c.args.h.asks)) + (length (said_bytes c.args.h.says c.args.h.status) + length (pd_bytes c.args.h.pd c.args.d))) = message-size _ _ _ _ in
     let m = size in
     wrote-whole (wrote_as (message-split _ _ _ _)

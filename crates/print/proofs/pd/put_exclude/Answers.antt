@@ -9,12 +9,12 @@ use Rattle.print.proofs.Laws.{exclude-size}
 use Rattle.print.proofs.pd.put_exclude.Goals as goal
 
 pub put_head-p-requires : goal.put_head-p-requires
-put_head-p-requires c = 
+put_head-p-requires c =
     let size : length (option 67 (exclude_bytes c.args.a (prefix (num c.args.e) c.args.b))) ≡ 5 + bytes_for c.args.a c.args.b = exclude-size c.args.a (prefix (num c.args.e) c.args.b) in
     let l = size in search rules
 
 pub put_exclude-requires : goal.put_exclude-requires
-put_exclude-requires c = 
+put_exclude-requires c =
     let size : length (option 67 (exclude_bytes c.args.a (prefix (num c.args.e) c.args.b))) ≡ 5 + bytes_for c.args.a c.args.b = exclude-size c.args.a (prefix (num c.args.e) c.args.b) in
     let l = size in search rules
 

@@ -22,7 +22,7 @@ put_bytes-requires c = search rules
 
 pub returns : goal.returns
 unfolding fixed_bytes be
-returns c = 
+returns c =
     let sixteen : Sixteen c.args.bits = record { long = search rules; bytes = λ i. (let f : Fits w8 (get_or c.args.bits i 0) = search rules in f.fits) } in
     wrote_then (search rules) c.put_number-p.ensures
     (wrote_then (search rules) c.put_number-q.ensures

@@ -1,4 +1,4 @@
-use Rattle.std.proofs.Common.{◌≡◌, ◌∙◌, sym, arith, eq-eqb, le-leb}
+use Rattle.std.proofs.Common.{◌∙◌, sym, arith, eq-eqb, le-leb}
 use Rattle.rules.specs.Options.{check, check_pd, check_prefix, own}
 use Rattle.laws.specs.Steps.{Stepped, scan-broken, scan-past, scan-seen, stepped}
 use Rattle.laws.specs.Walk.{scan-bad, scan-end}

@@ -10,13 +10,13 @@ use Rattle.values.specs.Values.{except_of}
 use Rattle.wire.proofs.content.cut_in.Goals as goal
 
 pub cut_at-requires : goal.cut_at-requires
-cut_at-requires c = 
+cut_at-requires c =
     let was : nth 67 0 (area_of c.args.msg.now c.args.at c.args.end) ≡ At c.in-At.place c.in-At.start c.in-At.len = cc in
     let w = was in
     (omega (arith, c.requires.0, nth_inside 67 0 c.args.msg.now c.args.at c.args.end w), good-exclude c.args.msg.now c.args.a 0 c.args.at c.args.end c.requires.1 w)
 
 pub returns-in-At : goal.returns-in-At
-returns-in-At c = 
+returns-in-At c =
     let was : nth 67 0 (area_of c.args.msg.now c.args.at c.args.end) ≡ At c.in-At.place c.in-At.start c.in-At.len = cc in
     rw was c.cut_at.ensures
 

@@ -9,19 +9,19 @@ pub returns-then-count_of-ne1 : goal.returns-then-count_of-ne1
 returns-then-count_of-ne1 c = client-other c.args.msg.now c.count_of.ensures c.if-count_of-ne1.true
 
 pub overflow_add-result : goal.overflow_add-result
-overflow_add-result c = 
+overflow_add-result c =
     let was : nth 1 0 (area_of c.args.msg.now 4 (length c.args.msg.now)) ≡ At c.in-At.place c.in-At.start c.in-At.len = cc in
     let inside : c.in-At.start + c.in-At.len ≤ length c.args.msg.now = nth_inside _ _ _ _ _ was in
     omega (arith, inside)
 
 pub slice_bounds-result-end-in-At : goal.slice_bounds-result-end-in-At
-slice_bounds-result-end-in-At c = 
+slice_bounds-result-end-in-At c =
     let was : nth 1 0 (area_of c.args.msg.now 4 (length c.args.msg.now)) ≡ At c.in-At.place c.in-At.start c.in-At.len = cc in
     let inside : c.in-At.start + c.in-At.len ≤ length c.args.msg.now = nth_inside _ _ _ _ _ was in
     inside
 
 pub returns-in-At : goal.returns-in-At
-returns-in-At c = 
+returns-in-At c =
     let was : nth 1 0 (area_of c.args.msg.now 4 (length c.args.msg.now)) ≡ At c.in-At.place c.in-At.start c.in-At.len = cc in
     stretch c.args.msg.now _ _ ∙ client-one c.args.msg.now c.count_of.ensures c.if-count_of-ne1.false (sym was)
 

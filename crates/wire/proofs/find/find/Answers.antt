@@ -1,10 +1,10 @@
-use Rattle.std.proofs.Common.{◌∙◌, sym, ◌-◌, arith}
+use Rattle.std.proofs.Common.{◌∙◌, sym, arith}
 use native.Mathlib.Nat.{pos_of_ne-zero}
 use Rattle.laws.specs.Steps.{Stepped, broke, ended, nth_here, nth-next, nth-none, nth_past, stepped}
 use Rattle.wire.proofs.find.find.Goals as goal
 
 pub returns-then-left-eq0 : goal.returns-then-left-eq0
-returns-then-left-eq0 c = 
+returns-then-left-eq0 c =
     let found : Stepped c.args.msg.now c.loop-code.p c.args.end c.in-Opt.code c.in-Opt.start c.in-Opt.len c.in-Opt.next = stepped _ _ _ (cc) in
     sym (c.loop-code.invariant ∙ nth_here _ found c.if-code-w.true c.if-left-eq0.true)
 
@@ -12,22 +12,22 @@ pub overflow_sub-left : goal.overflow_sub-left
 overflow_sub-left c = pos_of_ne-zero c.if-left-eq0.false
 
 pub loop-code-smaller-else-left-eq0 : goal.loop-code-smaller-else-left-eq0
-loop-code-smaller-else-left-eq0 c = 
+loop-code-smaller-else-left-eq0 c =
     let found : Stepped c.args.msg.now c.loop-code.p c.args.end c.in-Opt.code c.in-Opt.start c.in-Opt.len c.in-Opt.next = stepped _ _ _ (cc) in
     omega (arith, found)
 
 pub loop-code-preserved-else-left-eq0 : goal.loop-code-preserved-else-left-eq0
-loop-code-preserved-else-left-eq0 c = 
+loop-code-preserved-else-left-eq0 c =
     let found : Stepped c.args.msg.now c.loop-code.p c.args.end c.in-Opt.code c.in-Opt.start c.in-Opt.len c.in-Opt.next = stepped _ _ _ (cc) in
     c.loop-code.invariant ∙ nth-next _ found c.if-code-w.true c.if-left-eq0.false
 
 pub loop-code-smaller : goal.loop-code-smaller
-loop-code-smaller c = 
+loop-code-smaller c =
     let found : Stepped c.args.msg.now c.loop-code.p c.args.end c.in-Opt.code c.in-Opt.start c.in-Opt.len c.in-Opt.next = stepped _ _ _ (cc) in
     omega (arith, found)
 
 pub loop-code-preserved : goal.loop-code-preserved
-loop-code-preserved c = 
+loop-code-preserved c =
     let found : Stepped c.args.msg.now c.loop-code.p c.args.end c.in-Opt.code c.in-Opt.start c.in-Opt.len c.in-Opt.next = stepped _ _ _ (cc) in
     c.loop-code.invariant ∙ nth_past _ found _ c.if-code-w.false
 

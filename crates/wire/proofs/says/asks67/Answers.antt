@@ -1,4 +1,4 @@
-use Rattle.std.proofs.Common.{◌∙◌, sym, ◌-◌, add-zero, arith}
+use Rattle.std.proofs.Common.{◌∙◌, sym, add-zero, arith}
 use Rattle.std.proofs.Math.Nat.{sub-zero}
 use borrow.Author.Rules.{rules}
 use Rattle.laws.specs.Asks.{asks-end, asks-here, asks-on}
