@@ -1,4 +1,4 @@
-//! Links the proved library, which `rt staticlib firmware` writes.
+//! Links the proved library, which `host/library` writes.
 
 fn main() {
     let root = std::env::var("CARGO_MANIFEST_DIR").expect("set by cargo");
