@@ -1,13 +1,8 @@
 pub mod Stays
 pub mod Readings
-pub mod Invariant
-pub mod Routers
-pub mod RouterStays
 pub mod Boxes
-pub mod Demand3
 pub mod ExactlyWhen
 pub mod Lent
 pub mod Play
-pub mod Played
 pub mod Premises
 pub mod Accident

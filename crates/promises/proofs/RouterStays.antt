@@ -23,7 +23,7 @@ use Rattle.laws.specs.Told.{read-fine, ia-of-fine}
 use Rattle.laws.specs.Sound.{plus-good}
 use Rattle.laws.specs.RouterFields.{Sound, sound-facts}
 use Rattle.laws.specs.RouterKeeps.{sound-made, begun-sound, again-sound, closed-sound, open-some}
-use Rattle.promises.specs.Routers.{Awaited, awaited-facts, awaited-open}
+use Rattle.promises.proofs.Routers.{Awaited, awaited-facts, awaited-open}
 
 -- ---------------------------------------------------------------- start, send, resend, abandon
 

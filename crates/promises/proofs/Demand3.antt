@@ -20,8 +20,8 @@ use Rattle.laws.specs.Tests.{both}
 use Rattle.laws.specs.Refusals.{unless-done, in-time, one}
 use Rattle.laws.specs.Prefix.{overlap-sym}
 use Rattle.laws.specs.Sound.{sound-facts, sound-made}
-use Rattle.promises.specs.Invariant.{Steps, invariant}
-use Rattle.promises.specs.Routers.{starts, begins, repeats, closes, accepts}
+use Rattle.promises.proofs.Invariant.{Steps, invariant}
+use Rattle.promises.proofs.Routers.{starts, begins, repeats, closes, accepts}
 use Rattle.promises.specs.Boxes.{answers}
 
 -- ---------------------------------------------------------------- every step

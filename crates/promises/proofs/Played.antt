@@ -17,7 +17,7 @@ use Rattle.rules.specs.World as world
 use Rattle.rules.specs.declared.Kind.{Kind}
 use Rattle.rules.specs.declared.Kind.TheVariants.{Solicit, Request, Renew, Rebind, Release}
 use Rattle.promises.specs.Play.{standing, send_by, receive_by, serve_by, answer_by, handle_by, World, empty, Event, tick, opens, born, dies, sends, resends, abandons, receives, serves, copy, when_done, when_some, when_none, step, play, holding, shared, lent_twice}
-use Rattle.promises.specs.Demand3.{apart}
+use Rattle.promises.proofs.Demand3.{apart}
 
 -- ---------------------------------------------------------------- the operations as they stand
 
