@@ -5,7 +5,7 @@ ghost use Rattle.rules.specs.Options.{step_at};
 use crate::walk::step_all;
 use rules::Step;
 
-#[derive(Drop)]
+#[derive(Clone, Copy)]
 pub struct Reader<'a> {
     pub src: &'a [u8],
     pub at: usize,

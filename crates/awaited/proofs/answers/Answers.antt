@@ -1,3 +1,4 @@
+-- The numbers are read at their places.
 use Rattle.awaited.proofs.Laws.{answer-read}
 use Rattle.awaited.proofs.answers.Goals as goal
 

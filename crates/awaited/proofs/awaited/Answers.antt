@@ -1,3 +1,4 @@
+-- Each test in turn.
 use Rattle.std.proofs.Common.{true, ◌≡◌, ◌≤◌, arith, length}
 use Rattle.rules.specs.Message.{well_formed}
 use Rattle.laws.specs.RouterRepresent.{lent_length}

@@ -1,3 +1,4 @@
+-- One equation of tests.
 use Rattle.awaited.proofs.Laws.{formed-read}
 use Rattle.awaited.proofs.formed.Goals as goal
 

@@ -1,3 +1,4 @@
+-- By where the one Server ID was found.
 use Rattle.std.proofs.Common.{◌∙◌, ◌≡◌, sym}
 use Rattle.rules.specs.declared.Found.TheVariants.{At}
 use Rattle.heard.specs.Facts.{only-inside}
@@ -7,6 +8,7 @@ use Rattle.awaited.proofs.from_server.Goals as goal
 
 pub is_duid-known-requires : goal.is_duid-known-requires
 is_duid-known-requires c =
+    -- where it was found
     let was : only_of 2 c.args.msg.now ≡ At c.in-At.place c.in-At.start c.in-At.len = cc in
     (c.requires, only-inside _ _ was)
 

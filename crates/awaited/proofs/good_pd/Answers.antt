@@ -1,3 +1,4 @@
+-- The numbers are read at their places.
 use Rattle.awaited.proofs.Laws.{pd-read}
 use Rattle.awaited.proofs.good_pd.Goals as goal
 

@@ -1,3 +1,4 @@
+-- DUIDs of other lengths differ; where the lengths are the same, the whole of both is compared.
 use Rattle.awaited.proofs.Laws.{duid-other, duid-same}
 use Rattle.awaited.proofs.is_duid.Goals as goal
 

@@ -1,3 +1,4 @@
+-- At the three levels.
 use Rattle.awaited.proofs.Laws.{says-read}
 use Rattle.awaited.proofs.no_prefix.Goals as goal
 

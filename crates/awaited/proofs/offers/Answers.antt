@@ -1,3 +1,4 @@
+-- By the type, and where the one IA_PD was found.
 use Rattle.std.proofs.Common.{◌∙◌, ◌≡◌, sym}
 use Rattle.rules.specs.declared.Found.TheVariants.{At}
 use Rattle.heard.specs.Heard.{only_of}
@@ -10,6 +11,7 @@ returns-then-kind-eq8 c = offer-release c.args.t.now c.args.msg.now c.args.kind 
 
 pub good_pd-good-requires : goal.good_pd-good-requires
 good_pd-good-requires c =
+    -- where it was found
     let was : only_of 25 c.args.msg.now ≡ At c.in-At.place c.in-At.start c.in-At.len = cc in
     (c.requires.0, only-formed _ c.requires.1 was)
 

@@ -1,3 +1,4 @@
+-- What was found lies in the message; nothing has no Status Codes.
 use Rattle.std.proofs.Common.{◌≡◌, ◌+◌, ◌≤◌, arith, length}
 use Rattle.rules.specs.declared.Found.TheVariants.{At}
 use Rattle.awaited.proofs.Laws.{says-found, says_none, within-found}
@@ -5,6 +6,7 @@ use Rattle.awaited.proofs.says_6.Goals as goal
 
 pub overflow_add-start : goal.overflow_add-start
 overflow_add-start c =
+    -- what was found
     let was : c.args.f ≡ At c.in-At.place c.in-At.start c.in-At.len = cc in
     let inside : c.in-At.start + c.in-At.len ≤ length c.args.msg.now = within-found _ was c.requires in
     omega (arith, inside)

@@ -1,3 +1,4 @@
+-- The bytes, then zeros.
 use borrow.Author.Rules.{rules}
 use Rattle.laws.specs.Same.{filled_put}
 use Rattle.cells.proofs.put_filled.Goals as goal

@@ -1,3 +1,4 @@
+-- By whether the identity has a live binding, and whether the prefixes are gone.
 use Rattle.decide.proofs.Laws.{size, silent-rebind}
 use Rattle.decide.proofs.silent.Goals as goal
 

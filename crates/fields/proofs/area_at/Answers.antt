@@ -1,3 +1,4 @@
+-- `area_at`: the two numbers of the prefix are read at their places.
 use Rattle.laws.specs.Records.{read-area}
 use Rattle.fields.proofs.area_at.Goals as goal
 

@@ -1,3 +1,4 @@
+-- `duid_len`: the row has room for 130 bytes.
 use Rattle.std.proofs.Common.{arith}
 use Rattle.laws.specs.InPlace.{owner-length}
 use Rattle.fields.proofs.duid_len.Goals as goal

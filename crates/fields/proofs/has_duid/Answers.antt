@@ -1,3 +1,4 @@
+-- `has_duid`: by its length, and its bytes.
 use Rattle.laws.specs.InPlace.{owner-other, owner-same}
 use Rattle.fields.proofs.has_duid.Goals as goal
 

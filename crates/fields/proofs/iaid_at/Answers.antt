@@ -1,3 +1,4 @@
+-- `iaid_at`: the IAID is read at its place.
 use Rattle.laws.specs.Records.{read-iaid}
 use Rattle.fields.proofs.iaid_at.Goals as goal
 

@@ -1,3 +1,4 @@
+-- `live_at`: the end is read at its place.
 use Rattle.laws.specs.Records.{read-end}
 use Rattle.fields.proofs.live_at.Goals as goal
 

@@ -1,3 +1,4 @@
+-- By where the one IA_PD was found.
 use Rattle.std.proofs.Common.{◌≡◌, sym, ◌∙◌}
 use Rattle.rules.specs.declared.Found.TheVariants.{At}
 use Rattle.laws.specs.Tests.{false-true}
@@ -8,6 +9,7 @@ use Rattle.heard.proofs.asked_pd.Goals as goal
 
 pub pd_at-pd-requires : goal.pd_at-pd-requires
 pd_at-pd-requires c =
+    -- where it was found
     let was : only_of 25 c.args.msg.now ≡ At c.in-At.place c.in-At.start c.in-At.len = cc in
     pd-formed _ was c.requires.0
 

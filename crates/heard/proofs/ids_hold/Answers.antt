@@ -1,3 +1,4 @@
+-- By what the row wants, and where the one option was found.
 use Rattle.std.proofs.Common.{◌∙◌, ◌≡◌, sym, ◌+◌}
 use Rattle.rules.specs.declared.Found.TheVariants.{At}
 use Rattle.heard.proofs.Laws.{hold-none, hold-one, hold-other}
@@ -10,6 +11,7 @@ returns-then-not-id_wanted c = hold-none c.args.own.now c.args.kind c.args.id c.
 
 pub id_good-requires : goal.id_good-requires
 id_good-requires c =
+    -- where it was found
     let was : only_of (c.args.id + 1) c.args.msg.now ≡ At c.in-At.place c.in-At.start c.in-At.len = cc in
     only-inside _ _ was
 

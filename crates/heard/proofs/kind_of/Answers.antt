@@ -1,3 +1,4 @@
+-- Each type in turn.
 use Rattle.std.proofs.Common.{sym, ap, ◌∙◌}
 use Rattle.rules.specs.Identity.{kind_of}
 use Rattle.heard.proofs.Laws.{kind-is, kind-last}

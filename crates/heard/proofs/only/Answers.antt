@@ -1,3 +1,4 @@
+-- By how many there are, and where the first is.
 use Rattle.heard.proofs.Laws.{only-found, only-other}
 use Rattle.heard.proofs.only.Goals as goal
 

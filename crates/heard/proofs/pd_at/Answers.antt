@@ -1,3 +1,4 @@
+-- Each number is read at its place.
 use Rattle.std.proofs.Common.{refl}
 use Rattle.heard.proofs.Laws.{pd-read}
 use Rattle.heard.proofs.pd_at.Goals as goal

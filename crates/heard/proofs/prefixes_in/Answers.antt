@@ -9,11 +9,13 @@ loop-count-init c = record { size = refl; few = omega arith; left = refl; whole 
 
 pub prefix_at-requires : goal.prefix_at-requires
 prefix_at-requires c =
+    -- the option that a turn found
     let found : Stepped c.args.msg.now c.loop-count.p (c.args.start + c.args.len) c.in-Opt.code c.in-Opt.s c.in-Opt.n c.in-Opt.next = stepped _ _ _ (cc) in
     filled-formed _ _ _ c.loop-count.invariant found c.if-code-eq26.true c.requires
 
 pub offset_bounds-prefixes-count : goal.offset_bounds-prefixes-count
 offset_bounds-prefixes-count c =
+    -- there is room for one more
     let fits : c.loop-count.count < 5 = c.loop-count-test.true in
     let h = fits in search rules
 

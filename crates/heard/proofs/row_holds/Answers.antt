@@ -1,3 +1,4 @@
+-- Both options together are the row.
 use Rattle.heard.proofs.Laws.{rows-hold}
 use Rattle.heard.proofs.row_holds.Goals as goal
 

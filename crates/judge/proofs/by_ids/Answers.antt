@@ -1,3 +1,4 @@
+-- Each test in turn.
 use Rattle.std.proofs.Common.{ap, not, lit<}
 use Rattle.judge.proofs.Laws.{ids-6, ids-7, ids-0}
 use Rattle.judge.proofs.by_ids.Goals as goal

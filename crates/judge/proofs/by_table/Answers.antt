@@ -1,3 +1,4 @@
+-- Each test in turn.
 use Rattle.std.proofs.Common.{ap, not, lit<}
 use Rattle.judge.proofs.Laws.{table-long, table-9, table-1, table-0}
 use Rattle.judge.proofs.by_table.Goals as goal

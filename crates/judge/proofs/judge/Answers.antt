@@ -1,3 +1,4 @@
+-- Each part of the tests in turn.
 use Rattle.std.proofs.Common.{◌∙◌, refl, sym, arith, lit<}
 use Rattle.notes.specs.Noted.{Noted}
 use Rattle.judge.specs.Understood.{Understood}
@@ -15,6 +16,7 @@ returns-then-b-ne0 c = (c.refused-then-b-ne0.ensures ∙ judged-form _ _ _ _ c.b
 
 pub asked_pd-q-requires : goal.asked_pd-q-requires
 asked_pd-q-requires c =
+    -- the notes of a well-formed message
     let heard : Noted c.args.msg.now c.args.s = noted _ _ _ c.args.room c.by_table-a.ensures.0 c.if-a-ne0.false c.if-room-lt512.false c.by_form-b.ensures.0 c.if-b-ne0.false refl c.args.s c.requires in
     (formed _ _ _ c.args.room c.by_table-a.ensures.0 c.if-a-ne0.false c.if-room-lt512.false c.by_form-b.ensures.0 c.if-b-ne0.false refl, heard.pd)
 
@@ -29,6 +31,7 @@ returns-then-c-ne0 c = (c.refused-then-c-ne0.ensures ∙ judged-ids _ _ _ _ c.by
 pub passed_over-requires : goal.passed_over-requires
 passed_over-requires c =
     let heard : Noted c.args.msg.now c.args.s = noted _ _ _ c.args.room c.by_table-a.ensures.0 c.if-a-ne0.false c.if-room-lt512.false c.by_form-b.ensures.0 c.if-b-ne0.false refl c.args.s c.requires in
+    -- what passed the tests but the last
     let passed : Understood c.args.t.now c.args.msg.now = understood _ _ _ c.args.room c.by_table-a.ensures.0 c.if-a-ne0.false c.if-room-lt512.false c.by_form-b.ensures.0 c.if-b-ne0.false c.by_ids-c.ensures.0 c.if-c-ne0.false in
     (passed, heard, c.asked_pd-q.ensures.1 (c.asked_pd-q.ensures.0 ∙ passed.pds))
 

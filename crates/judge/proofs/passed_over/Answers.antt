@@ -1,3 +1,4 @@
+-- By the kind.
 use Rattle.std.proofs.Common.{◌∙◌, refl, sym}
 use Rattle.judge.proofs.Laws.{over-is, over-other}
 use Rattle.judge.proofs.passed_over.Goals as goal

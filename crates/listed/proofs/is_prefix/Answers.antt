@@ -1,3 +1,4 @@
+-- `is_prefix`: the length, and all the bits.
 use Rattle.values.specs.Values.{lease_of, listed_of}
 use Rattle.listed.proofs.is_prefix.Goals as goal
 

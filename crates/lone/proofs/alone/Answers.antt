@@ -1,3 +1,4 @@
+-- By the tests on the way, and what the judgement of the option gives.
 use Rattle.std.proofs.Common.{eq-eqb, ne_eqb}
 use Rattle.lone.proofs.alone.Goals as goal
 

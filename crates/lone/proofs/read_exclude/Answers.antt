@@ -1,3 +1,4 @@
+-- The excluded prefix is what the content unpacks to.
 use Rattle.std.proofs.Common.{◌-◌, refl, inl, inr, arith, get_or, length, ne_eqb}
 use Rattle.rules.specs.Lone.{read_exclude}
 use Rattle.rules.specs.Prefix.{prefix, unpacked}
@@ -13,6 +14,7 @@ returns-then-no-ne0 c = (simp (ne_eqb _ _ c.if-no-ne0.true) (refused (InPrefix c
 
 pub overflow_sub-text : goal.overflow_sub-text
 overflow_sub-text c =
+    -- the text is a PD Exclude, well formed
     let one : Alone (InPrefix c.args.a) 67 c.args.text.now = alone-is _ _ _ c.refusal-no.ensures c.if-no-ne0.false in
     omega (arith, one)
 

@@ -1,3 +1,4 @@
+-- The DUID is all of the text after the header.
 use Rattle.std.proofs.Common.{◌+◌, ◌-◌, refl, arith, length, eq-eqb}
 use Rattle.rules.specs.Lone.{only, read_id}
 use Rattle.rules.specs.Options.{content}

@@ -1,3 +1,4 @@
+-- Refused by the two tests, in their order; else each part is as it was noted.
 use Rattle.std.proofs.Common.{◌≡◌, ◌∙◌, sym, false}
 use Rattle.std.proofs.lemmas.Bool.{not-true, not-false}
 use Rattle.rules.specs.Refusals.{wrong_size}

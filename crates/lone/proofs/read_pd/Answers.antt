@@ -1,3 +1,4 @@
+-- The numbers are read at their places, and the IA Prefixes are counted.
 use Rattle.std.proofs.Common.{◌∙◌, ap, refl, ◌-◌, arith, length}
 use Rattle.rules.specs.Lone.{only, read_pd}
 use Rattle.rules.specs.Message.{ia_at}
@@ -14,6 +15,7 @@ returns-then-no-ne0 c = ap (projected (pd_head c.args.text.now)) (refused Top 25
 
 pub u32_at-requires : goal.u32_at-requires
 u32_at-requires c =
+    -- the text is an IA_PD, well formed
     let one : Alone Top 25 c.args.text.now = alone-is _ _ _ c.refusal-no.ensures c.if-no-ne0.false in
     let pd : PdFormed c.args.text.now 4 (length c.args.text.now - 4) = judged-pd _ 0 0 4 _ (omega (arith, one)) one.good in
     omega (arith, pd)

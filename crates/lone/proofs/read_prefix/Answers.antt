@@ -1,3 +1,4 @@
+-- The IA Prefix is read at the place of its content.
 use Rattle.std.proofs.Common.{◌-◌, refl, inl, inr, arith, length, ne_eqb}
 use Rattle.rules.specs.Lone.{only, read_prefix}
 use Rattle.rules.specs.Message.{listed_at}

@@ -1,3 +1,4 @@
+-- The codes are all of the text after the header.
 use Rattle.std.proofs.Common.{arith}
 use Rattle.rules.specs.Lone.{only, read_request}
 use Rattle.rules.specs.Message.{asks67}

@@ -1,3 +1,4 @@
+-- The code is the two bytes after the header.
 use Rattle.rules.specs.Lone.{only, read_status}
 use Rattle.rules.specs.Message.{status_at}
 use Rattle.rules.specs.declared.Level.TheVariants.{Top}

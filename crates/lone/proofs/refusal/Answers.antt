@@ -1,3 +1,4 @@
+-- By the tests, in their order.
 use Rattle.std.proofs.Common.{◌∙◌, sym}
 use Rattle.lone.specs.Answers.{lone_refusal}
 use Rattle.lone.proofs.refusal.Goals as goal

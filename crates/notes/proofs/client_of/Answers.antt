@@ -1,3 +1,4 @@
+-- The Client ID that was noted lies in the message; its content is that part of it.
 use Rattle.std.proofs.Common.{◌∙◌, ◌≡◌, ◌+◌, ◌≤◌, arith, length}
 use Rattle.rules.specs.declared.Found.TheVariants.{At}
 use Rattle.wire.proofs.Laws.{stretch}
@@ -9,6 +10,7 @@ returns-then-x-ne1 c = noted_other c.args.msg.now c.args.x c.requires c.if-x-ne1
 
 pub overflow_add-result : goal.overflow_add-result
 overflow_add-result c =
+    -- where it was found
     let was : c.args.x.first ≡ At c.in-At.place c.in-At.start c.in-At.len = cc in
     let inside : c.in-At.start + c.in-At.len ≤ length c.args.msg.now = noted-inside c.args.msg.now c.args.x c.requires was in
     omega (arith, inside)

@@ -1,3 +1,4 @@
+-- By its code.
 use Rattle.std.proofs.Common.{◌∙◌, ap, sym}
 use Rattle.rules.specs.Options.{is_good}
 use Rattle.notes.proofs.Laws.{good-other, good-request}

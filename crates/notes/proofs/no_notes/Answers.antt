@@ -1,3 +1,4 @@
+-- By its parts.
 use Rattle.notes.proofs.no_notes.Goals as goal
 
 pub returns : goal.returns

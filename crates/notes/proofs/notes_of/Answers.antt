@@ -1,3 +1,4 @@
+-- By its size.
 use Rattle.std.proofs.Common.{subst, sym}
 use Rattle.notes.specs.Noted.{Heard}
 use Rattle.notes.proofs.Laws.{heard-size}

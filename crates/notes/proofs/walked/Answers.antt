@@ -9,6 +9,7 @@ loop-code-init c = walked_start c.args.msg.now c.nothing-client.ensures c.nothin
 
 pub good-requires : goal.good-requires
 good-requires c =
+    -- the option that a turn found
     let found : Stepped c.args.msg.now c.loop-code.p (length c.args.msg.now) c.in-Opt.code c.in-Opt.start c.in-Opt.len c.in-Opt.next = stepped _ _ _ (cc) in
     omega (arith, found)
 

@@ -1,3 +1,4 @@
+-- By the type, and where the one IA_PD was found.
 use Rattle.std.proofs.Common.{◌∙◌, ◌≡◌, sym, arith}
 use Rattle.rules.specs.declared.Found.TheVariants.{At}
 use Rattle.laws.specs.RouterRepresent.{lent_length}
@@ -14,6 +15,7 @@ get-began-requires c = omega (arith, lent_length _ c.requires.sound)
 
 pub taken-requires : goal.taken-requires
 taken-requires c =
+    -- where it was found
     let was : only_of 25 c.args.msg.now ≡ At c.in-At.place c.in-At.start c.in-At.len = cc in
     (only-formed _ (facts c.requires).formed was, began-small c.requires c.get-began.ensures.0)
 

@@ -1,3 +1,4 @@
+-- By whether its end is after now.
 use Rattle.std.proofs.Common.{ap, not, arith}
 use Rattle.receiving.proofs.Laws.{encodes-small, hold-none, hold-some}
 use Rattle.receiving.proofs.hold_of.Goals as goal

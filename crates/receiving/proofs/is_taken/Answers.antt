@@ -1,3 +1,4 @@
+-- By what was found.
 use Rattle.std.proofs.Common.{◌≡◌}
 use Rattle.rules.specs.declared.Found.TheVariants.{At}
 use Rattle.receiving.proofs.Laws.{listed_found, taken-found, taken-nothing}
@@ -5,6 +6,7 @@ use Rattle.receiving.proofs.is_taken.Goals as goal
 
 pub prefix_at-requires : goal.prefix_at-requires
 prefix_at-requires c =
+    -- what was found
     let was : c.args.f ≡ At c.in-At.place c.in-At.start c.in-At.len = cc in
     listed_found _ was c.requires
 

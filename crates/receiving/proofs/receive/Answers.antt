@@ -1,3 +1,4 @@
+-- Judged first; what is written is the state after the acceptance.
 use Rattle.std.proofs.Common.{arith}
 use Rattle.receiving.proofs.Laws.{accepted-is, received-accepted, received-done, received-long, received-refused, told-short}
 use Rattle.receiving.specs.Received.{Accepted}

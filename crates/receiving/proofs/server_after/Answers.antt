@@ -1,3 +1,4 @@
+-- The stretch of the one Server ID, or an empty one.
 use Rattle.std.proofs.Common.{◌∙◌, ◌≡◌, sym, ◌+◌, ◌≤◌, arith, length}
 use Rattle.rules.specs.declared.Found.TheVariants.{At}
 use Rattle.heard.specs.Facts.{only-inside}
@@ -10,6 +11,7 @@ returns-then-kind c = server-kept c.args.kind c.args.msg.now c.if-kind.true
 
 pub overflow_add-result : goal.overflow_add-result
 overflow_add-result c =
+    -- where it was found
     let was : only_of 2 c.args.msg.now ≡ At c.in-At.place c.in-At.start c.in-At.len = cc in
     let inside : c.in-At.start + c.in-At.len ≤ length c.args.msg.now = only-inside _ _ was in
     omega (arith, inside)

@@ -1,3 +1,4 @@
+-- By what is the first to be taken.
 use Rattle.std.proofs.Common.{◌∙◌, ◌≡◌, sym}
 use Rattle.rules.specs.declared.Found.TheVariants.{At}
 use Rattle.laws.specs.Formed.{PrefixFormed}
@@ -7,6 +8,7 @@ use Rattle.receiving.proofs.taken.Goals as goal
 
 pub prefix_at-requires : goal.prefix_at-requires
 prefix_at-requires c =
+    -- where it was found
     let was : taken_in c.args.msg.now c.args.start c.args.len ≡ At c.in-At.place c.in-At.start c.in-At.len = cc in
     let formed : PrefixFormed c.args.msg.now c.in-At.start c.in-At.len = taken-formed c.args.msg.now c.args.start c.args.len c.args.began c.args.time c.requires.0 was in
     formed

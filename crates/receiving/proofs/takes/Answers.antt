@@ -1,3 +1,4 @@
+-- One equation of tests.
 use Rattle.receiving.proofs.Laws.{takes-read}
 use Rattle.receiving.proofs.takes.Goals as goal
 

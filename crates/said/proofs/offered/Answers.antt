@@ -1,3 +1,4 @@
+-- `offered`: the delegation's sixteen bytes, and those of its last /64 where that is excluded.
 use Rattle.std.proofs.Common.{[]}
 use Rattle.sound.specs.Setup.{setup_of}
 use Rattle.values.specs.Values.{lease_of, listed_of}

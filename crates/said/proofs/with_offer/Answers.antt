@@ -1,3 +1,4 @@
+-- `with_offer`: the delegation is first.
 use Rattle.std.proofs.Common.{◌∙◌}
 use Rattle.said.proofs.with_offer.Goals as goal
 

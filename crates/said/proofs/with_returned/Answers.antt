@@ -1,3 +1,4 @@
+-- `with_returned`: T1 and T2 are 0.
 use Rattle.std.proofs.Common.{◌∙◌}
 use Rattle.said.proofs.with_returned.Goals as goal
 

@@ -1,3 +1,4 @@
+-- `hits`: the record's prefix beside the other.
 use Rattle.search.proofs.hits.Goals as goal
 
 pub returns : goal.returns

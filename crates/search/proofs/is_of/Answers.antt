@@ -1,3 +1,4 @@
+-- `is_of`: by the IAID, and the DUID.
 use Rattle.std.proofs.Common.{eq-eqb, ne_eqb}
 use Rattle.search.proofs.is_of.Goals as goal
 

@@ -1,3 +1,4 @@
+-- `record_at`: each field is read at its place.
 use Rattle.laws.specs.Records.{read}
 use Rattle.search.proofs.record_at.Goals as goal
 

@@ -1,3 +1,4 @@
+-- `good_except`: none and zeros, or one with an encoding.
 use Rattle.std.proofs.Common.{eq-eqb, ne_eqb, sym, ◌∙◌}
 use Rattle.laws.specs.RouterFlat.{except_in, way-true, way-false}
 use Rattle.state.proofs.good_except.Goals as goal

@@ -1,3 +1,4 @@
+-- `good_exchange`: no server where one is wanted, a delegation that is sent, or none.
 use Rattle.laws.specs.RouterFlat.{exchange-alone, exchange-sends, exchange-bare}
 use Rattle.state.proofs.good_exchange.Goals as goal
 

@@ -1,3 +1,4 @@
+-- `good_held`: none and zeros, or a hold with a server.
 use Rattle.std.proofs.Common.{eq-eqb, ne_eqb, sym, ◌∙◌}
 use Rattle.laws.specs.RouterFlat.{held_in, way-true, way-false}
 use Rattle.state.proofs.good_held.Goals as goal

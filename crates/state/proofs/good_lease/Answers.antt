@@ -1,3 +1,4 @@
+-- `good_lease` tests what the definition tests.
 use Rattle.laws.specs.RouterFlat.{lease_in}
 use Rattle.state.proofs.good_lease.Goals as goal
 

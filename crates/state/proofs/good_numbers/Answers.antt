@@ -1,3 +1,4 @@
+-- `good_numbers` tests what the definition tests.
 use Rattle.laws.specs.RouterFlat.{numbers_in}
 use Rattle.state.proofs.good_numbers.Goals as goal
 

@@ -1,3 +1,4 @@
+-- `good_server`: none and zeros, or a DUID.
 use Rattle.std.proofs.Common.{eq-eqb, ne_eqb, sym, ◌∙◌}
 use Rattle.laws.specs.RouterFlat.{server_in, way-true, way-false}
 use Rattle.state.proofs.good_server.Goals as goal

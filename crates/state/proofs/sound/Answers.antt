@@ -1,3 +1,4 @@
+-- `sound` is the flat test, which is soundness.
 use Rattle.laws.specs.RouterFlat.{flat_router, flat-router}
 use Rattle.state.proofs.sound.Goals as goal
 

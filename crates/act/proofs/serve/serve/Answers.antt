@@ -1,3 +1,4 @@
+-- The IA_PD, the asker and the kind as they are read; the decision, the answer and the change.
 use Rattle.act.proofs.Laws.{ready-answer, ready-carry, served-is}
 use Rattle.act.proofs.serve.serve.Goals as goal
 

@@ -1,3 +1,4 @@
+-- `could_be`: test by test.
 use Rattle.choose.proofs.hint.could_be.Goals as goal
 
 pub returns : goal.returns

@@ -1,3 +1,4 @@
+-- `is_free`: nothing overlaps, or the first that does.
 use Rattle.std.proofs.Common.{sym, ap, ◌∙◌}
 use Rattle.rules.specs.TableBytes.{record_at}
 use Rattle.prefix.specs.Upper.{upper}

@@ -1,3 +1,4 @@
+-- `last_place`: the ones after the first b bits make the last address.
 use Rattle.std.proofs.Common.{arith}
 use Rattle.laws.specs.Places.{half-last, half-fits, half-number}
 use Rattle.choose.proofs.walk.last_place.Goals as goal

@@ -1,3 +1,4 @@
+-- `past`: the prefix is read in place.
 use Rattle.std.proofs.Common.{sym, arith}
 use Rattle.choose.proofs.Laws.{next_fits}
 use Rattle.choose.proofs.walk.past.Goals as goal

@@ -1,3 +1,4 @@
+-- A refusal, or the table without ended records served.
 use Rattle.std.proofs.Common.{refl, ◌∙◌, arith}
 use Rattle.delegator.proofs.Handle.{refused, is-sound, is-accepted, is-ready, has-notes, is-handled}
 use Rattle.delegator.proofs.handling.handle.Goals as goal

@@ -1,3 +1,4 @@
+-- One equation of tests.
 use Rattle.delegator.proofs.Laws.{settings-read}
 use Rattle.delegator.proofs.opening.good_settings.Goals as goal
 

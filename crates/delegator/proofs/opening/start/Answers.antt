@@ -1,3 +1,4 @@
+-- 10, then 1; else the whole array is written.
 use Rattle.std.proofs.Common.{not, ap, sym, ◌∙◌}
 use borrow.Author.Rules.{rules}
 use Rattle.delegator.proofs.Laws.{pool-upper, own-few, start-10, start-1, start-0}

@@ -1,3 +1,4 @@
+-- 9, then 1; else the live ones are counted.
 use Rattle.std.proofs.Common.{arith}
 use Rattle.delegator.proofs.Laws.{live-refused, live-held, live-counted}
 use Rattle.delegator.proofs.showing.live.Goals as goal

@@ -1,3 +1,4 @@
+-- 9, then 2; else the bytes of the record, or nothing.
 use Rattle.std.proofs.Common.{not, ap, arith}
 use Rattle.delegator.proofs.Laws.{shown-9, shown-2, table-held, shown-none, shown-row}
 use Rattle.delegator.proofs.showing.record_at.Goals as goal

@@ -1,3 +1,4 @@
+-- Five numbers, one after another.
 use borrow.Author.Rules.{rules}
 use Rattle.leases.proofs.Laws.{pool-made}
 use Rattle.leases.proofs.empty.put_pool.Goals as goal

@@ -1,3 +1,4 @@
+-- Three numbers, the DUID, and zeros.
 use borrow.Author.Rules.{rules}
 use Rattle.leases.proofs.Laws.{terms-made}
 use Rattle.leases.proofs.empty.put_terms.Goals as goal

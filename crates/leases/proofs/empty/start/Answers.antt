@@ -1,3 +1,4 @@
+-- Every byte is written: the last time, no record, the settings, and zeros.
 use Rattle.std.proofs.Common.{refl}
 use Rattle.leases.proofs.Laws.{start-made}
 use Rattle.leases.proofs.empty.start.Goals as goal

@@ -1,3 +1,4 @@
+-- By whether the record is live, and whether it stands at its place.
 use Rattle.std.proofs.Common.{ap, refl, sym, add-zero}
 use borrow.Author.Rules.{rules}
 use Rattle.rules.specs.TableBytes.{place}

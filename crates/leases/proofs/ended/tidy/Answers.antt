@@ -1,3 +1,4 @@
+-- The last time and the number of what is left, over what the dropping leaves.
 use borrow.Author.Rules.{rules}
 use Rattle.laws.specs.Change.{Held, held}
 use Rattle.leases.proofs.Laws.{tidy-made}
@@ -5,6 +6,7 @@ use Rattle.leases.proofs.ended.tidy.Goals as goal
 
 pub get-n-requires : goal.get-n-requires
 get-n-requires c =
+    -- what the caller lends
     let lent : Held c.args.t.now = held c.args.t.now c.requires in
     let g = lent in search rules
 

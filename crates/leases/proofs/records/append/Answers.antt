@@ -1,3 +1,4 @@
+-- A row behind the last one, and the number of records.
 use borrow.Author.Rules.{rules}
 use Rattle.laws.specs.Change.{Held, held}
 use Rattle.leases.proofs.Laws.{append-made}
@@ -5,6 +6,7 @@ use Rattle.leases.proofs.records.append.Goals as goal
 
 pub get-n-requires : goal.get-n-requires
 get-n-requires c =
+    -- what the caller lends
     let lent : Held c.args.t.now = held c.args.t.now c.requires.0 in
     let g = lent in search rules
 

@@ -1,3 +1,4 @@
+-- One write, in the record.
 use borrow.Author.Rules.{rules}
 use Rattle.laws.specs.Change.{Held, held}
 use Rattle.leases.proofs.Laws.{extend-made}
@@ -5,6 +6,7 @@ use Rattle.leases.proofs.records.extend_at.Goals as goal
 
 pub put-requires : goal.put-requires
 put-requires c =
+    -- what the caller lends
     let lent : Held c.args.t.now = held c.args.t.now c.requires.0 in
     let g = lent in search rules
 

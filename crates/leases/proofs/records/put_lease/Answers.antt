@@ -1,3 +1,4 @@
+-- Four numbers, one after another.
 use borrow.Author.Rules.{rules}
 use Rattle.leases.proofs.Laws.{lease_made}
 use Rattle.leases.proofs.records.put_lease.Goals as goal

@@ -1,3 +1,4 @@
+-- The number of the bytes of the DUID, the IAID, the delegation with its end, and the DUID.
 use borrow.Author.Rules.{rules}
 use Rattle.leases.proofs.Laws.{record-made}
 use Rattle.leases.proofs.records.put_record.Goals as goal

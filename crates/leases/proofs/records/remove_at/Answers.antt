@@ -1,3 +1,4 @@
+-- The rows behind it moved down, the last one cleared, and the number of records.
 use borrow.Author.Rules.{rules}
 use Rattle.laws.specs.Change.{Held, held}
 use Rattle.leases.proofs.Laws.{remove-made}
@@ -5,6 +6,7 @@ use Rattle.leases.proofs.records.remove_at.Goals as goal
 
 pub get-n-requires : goal.get-n-requires
 get-n-requires c =
+    -- what the caller lends
     let lent : Held c.args.t.now = held c.args.t.now c.requires.0 in
     let g = lent in search rules
 

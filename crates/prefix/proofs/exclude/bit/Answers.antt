@@ -1,3 +1,4 @@
+-- `bit` reads one bit of a byte, or is past the end.
 use Rattle.std.proofs.Common.{refl, sym, arith, get_or}
 use borrow.Author.Rules.{rules}
 use mir.Syntax.{w8}

@@ -1,3 +1,4 @@
+-- `encodable` tests what the definition tests.
 use Rattle.rules.specs.Prefix.{encodable}
 use Rattle.prefix.proofs.exclude.encodable.Goals as goal
 

@@ -1,3 +1,4 @@
+-- `joined_byte`: in d, in p, or across the two.
 use Rattle.std.proofs.Common.{refl, ◌∙◌, ◌+◌, ◌-◌, ◌*◌, arith, get_or}
 use borrow.Author.Rules.{rules}
 use mir.Syntax.{w8}

@@ -1,3 +1,4 @@
+-- `inside`: the outer one is no longer, and its bits are the same.
 use Rattle.std.proofs.Common.{le-leb}
 use Rattle.std.proofs.lemmas.Bool.{lt-leb}
 use Rattle.rules.specs.Prefix.{inside}

@@ -1,3 +1,4 @@
+-- `overlap` compares as many bits as the shorter one has.
 use Rattle.std.proofs.Common.{le_of_lt}
 use Rattle.std.proofs.Math.Nat.{min-eq_left, min-eq_right}
 use Rattle.rules.specs.Prefix.{overlap}

@@ -1,3 +1,4 @@
+-- `is_upper` compares the halves.
 use Rattle.rules.specs.Words.{num}
 use Rattle.laws.specs.Last.{upper-test}
 use Rattle.prefix.proofs.last.is_upper.Goals as goal

@@ -1,3 +1,4 @@
+-- `of_upper` writes eight bytes in front of zeros.
 use Rattle.std.proofs.Common.{ap, ◌∙◌}
 use Rattle.rules.specs.Words.{num}
 use Rattle.laws.specs.Last.{upper-bytes}

@@ -1,3 +1,4 @@
+-- `inside16`: the outer one's lower half is zero.
 use Rattle.std.proofs.Common.{add-zero}
 use Rattle.rules.specs.Prefix.{inside}
 use Rattle.laws.specs.Halves.{halves_of}

@@ -1,3 +1,4 @@
+-- `low` reads the last eight bytes.
 use Rattle.std.proofs.Common.{◌∙◌, get_or}
 use borrow.Author.Rules.{rules}
 use mir.Syntax.{w8}

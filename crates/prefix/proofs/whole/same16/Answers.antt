@@ -1,3 +1,4 @@
+-- `same16`: all 128 bits.
 use Rattle.std.proofs.Common.{◌∙◌}
 use Rattle.rules.specs.Words.{num}
 use Rattle.laws.specs.Halves.{front-whole}

@@ -1,3 +1,4 @@
+-- `same_first`: in the upper half, or that half and in the lower.
 use Rattle.std.proofs.Common.{◌∙◌}
 use Rattle.laws.specs.Halves.{front-upper, front-both}
 use Rattle.prefix.proofs.whole.same_first.Goals as goal

@@ -1,3 +1,4 @@
+-- `same_front16`: by the halves.
 use Rattle.std.proofs.Common.{◌∙◌}
 use Rattle.laws.specs.Halves.{halves_of}
 use Rattle.prefix.proofs.whole.same_front16.Goals as goal

@@ -1,3 +1,4 @@
+-- `zero_after16`: after the upper half's bits and all of the lower, or in the lower.
 use Rattle.std.proofs.Common.{◌∙◌}
 use Rattle.laws.specs.Halves.{zero-both, zero-lower}
 use Rattle.prefix.proofs.whole.zero_after16.Goals as goal

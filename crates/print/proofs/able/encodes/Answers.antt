@@ -1,3 +1,4 @@
+-- By its prefix and its excluded prefix; the lifetimes fit their fields.
 use Rattle.std.proofs.Common.{◌<◌, ◌^◌}
 use borrow.Author.Rules.{rules}
 use Rattle.print.proofs.Alone.{listed-encodes}

@@ -1,3 +1,4 @@
+-- There are no more than five.
 use Rattle.std.proofs.Common.{◌≡◌, ◌≤◌, arith, length}
 use borrow.Author.Rules.{rules}
 use Rattle.print.proofs.Alone.{take-over}

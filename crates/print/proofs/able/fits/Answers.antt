@@ -1,3 +1,4 @@
+-- Sixteen bytes are of 128 bits.
 use Rattle.std.proofs.Common.{get_or}
 use borrow.Author.Rules.{rules}
 use mir.Syntax.{w8}

@@ -1,3 +1,4 @@
+-- By its prefixes and its status.
 use Rattle.print.proofs.able.pd_encodes.Goals as goal
 
 pub returns : goal.returns

@@ -1,3 +1,4 @@
+-- The same prefixes, and the same status or none.
 use Rattle.std.proofs.Common.{refl, sym, ◌∙◌}
 use Rattle.laws.specs.Tests.{false-true}
 use Rattle.values.specs.Values.{ia_of}

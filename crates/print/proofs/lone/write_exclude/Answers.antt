@@ -1,3 +1,4 @@
+-- An excluded prefix that has an encoding inside the other.
 use Rattle.std.proofs.Common.{sym, ◌∙◌, zero-add, le_of_lt}
 use Rattle.rules.specs.Words.{num}
 use Rattle.rules.specs.Prefix.{prefix, exclude_bytes, encodable}

@@ -1,3 +1,4 @@
+-- Any DUID of at most 65,535 bytes.
 use Rattle.std.proofs.Common.{refl, sym, true}
 use borrow.Author.Rules.{rules}
 use Rattle.rules.specs.Lone.{write_id}

@@ -1,3 +1,4 @@
+-- An IA_PD that has an encoding: trimmed, it is the same.
 use Rattle.std.proofs.Common.{ap, ◌∙◌, ◌<◌, ◌^◌, length, zero-add}
 use borrow.Author.Rules.{rules}
 use Rattle.rules.specs.Options.{option}

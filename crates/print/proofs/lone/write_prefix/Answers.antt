@@ -1,3 +1,4 @@
+-- An IA Prefix that has an encoding.
 use Rattle.std.proofs.Common.{[], zero-add}
 use Rattle.rules.specs.Message.{listed_bytes}
 use Rattle.rules.specs.Lone.{listed_encodes, write_prefix}

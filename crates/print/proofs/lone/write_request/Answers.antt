@@ -1,3 +1,4 @@
+-- Only the room is judged.
 use Rattle.std.proofs.Common.{refl, ap, true, length}
 use borrow.Author.Rules.{rules}
 use Rattle.rules.specs.Words.{be16}

@@ -1,3 +1,4 @@
+-- A code of at most 65,535.
 use Rattle.std.proofs.Common.{refl, ap, ◌∙◌, ◌++◌, ltb, length, zero-add, ltb-true}
 use Rattle.rules.specs.Words.{be16}
 use Rattle.rules.specs.Message.{name_of}

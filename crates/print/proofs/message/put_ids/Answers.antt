@@ -1,3 +1,4 @@
+-- The type and the number, the Client ID, the Server ID.
 use Rattle.std.proofs.Common.{◌≡◌, ◌+◌, length}
 use borrow.Author.Rules.{rules}
 use Rattle.rules.specs.Words.{be}

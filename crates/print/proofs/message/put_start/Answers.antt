@@ -1,3 +1,4 @@
+-- The type, then the number.
 use Rattle.std.proofs.Common.{◌<◌}
 use borrow.Author.Rules.{rules}
 use Rattle.rules.specs.Words.{be}

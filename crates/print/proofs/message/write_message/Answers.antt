@@ -1,3 +1,4 @@
+-- The parts of a message, one after another.
 use Rattle.std.proofs.Common.{◌≡◌, ◌+◌, length}
 use borrow.Author.Rules.{rules}
 use Rattle.rules.specs.Options.{printed}

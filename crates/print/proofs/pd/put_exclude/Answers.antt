@@ -1,3 +1,4 @@
+-- `put_exclude` leaves the head, then the excluded length and its bits.
 use Rattle.std.proofs.Common.{◌≡◌, sym, ◌+◌, length}
 use borrow.Author.Rules.{rules}
 use Rattle.rules.specs.Words.{num}

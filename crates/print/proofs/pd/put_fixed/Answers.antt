@@ -1,3 +1,4 @@
+-- The four fields, one after another.
 use Rattle.std.proofs.Common.{get_or}
 use borrow.Author.Rules.{rules}
 use mir.Syntax.{w8}

@@ -1,3 +1,4 @@
+-- The content, its fields and then its PD Exclude, and last the head in front of it.
 use borrow.Author.Rules.{rules}
 use Rattle.rules.specs.Words.{be}
 use Rattle.laws.specs.Writes.{wrote_as, wrote_then, wrote-front}

@@ -1,3 +1,4 @@
+-- The three numbers, one after another.
 use borrow.Author.Rules.{rules}
 use Rattle.rules.specs.Words.{be}
 use Rattle.laws.specs.Writes.{wrote_then}

@@ -1,3 +1,4 @@
+-- `put_head` leaves the code and the length.
 use borrow.Author.Rules.{rules}
 use Rattle.laws.specs.Writes.{wrote_then}
 use Rattle.print.proofs.put.put_head.Goals as goal

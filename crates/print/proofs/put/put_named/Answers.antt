@@ -1,3 +1,4 @@
+-- `put_named` leaves the head, the code and the text.
 use borrow.Author.Rules.{rules}
 use native.Mathlib.Numerals.{add-two}
 use Rattle.rules.specs.Options.{option}

@@ -1,3 +1,4 @@
+-- `put_number` leaves the bytes of the number.
 use Rattle.laws.specs.Writes.{wrote-all}
 use Rattle.laws.specs.Numbers.{length-be}
 use Rattle.print.proofs.put.put_number.Goals as goal

@@ -1,3 +1,4 @@
+-- Each status by its name.
 use Rattle.std.proofs.Common.{sym}
 use borrow.Author.Rules.{rules}
 use Rattle.laws.specs.Writes.{wrote_as}

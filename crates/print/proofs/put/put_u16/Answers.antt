@@ -1,3 +1,4 @@
+-- `put_u16` leaves two bytes.
 use Rattle.laws.specs.Writes.{wrote_as, be-16}
 use Rattle.print.proofs.put.put_u16.Goals as goal
 

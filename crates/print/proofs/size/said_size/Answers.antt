@@ -1,3 +1,4 @@
+-- A Status Code, or nothing.
 use Rattle.std.proofs.Common.{refl}
 use borrow.Author.Rules.{rules}
 use Rattle.rules.specs.Options.{printed}

@@ -1,3 +1,4 @@
+-- Judged; then nothing is open.
 use Rattle.requester.proofs.Acting.{abandoned-refused, abandoned-sound, abandoned-made}
 use Rattle.requester.proofs.asking.abandon.Goals as goal
 

@@ -1,3 +1,4 @@
+-- Judged; then the last time, and the message of the open exchange.
 use Rattle.requester.proofs.Acting.{resent-refused, resent-may, resent-open, resent-made}
 use Rattle.requester.proofs.asking.resend.Goals as goal
 

@@ -1,3 +1,4 @@
+-- Judged; then the new exchange, and its message.
 use Rattle.requester.proofs.Acting.{sent-refused, sent-sound, sent-open, sent-made}
 use Rattle.requester.proofs.asking.send.Goals as goal
 

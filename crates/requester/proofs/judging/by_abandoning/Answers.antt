@@ -1,3 +1,4 @@
+-- Part by part.
 use Rattle.std.proofs.Common.{lit<}
 use Rattle.state.specs.Facts.{state-sound}
 use Rattle.requester.proofs.Tests.{abandoning-state, abandoning-open}

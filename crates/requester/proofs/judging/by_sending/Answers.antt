@@ -1,3 +1,4 @@
+-- Part by part.
 use Rattle.std.proofs.Common.{not, ap, lit<}
 use Rattle.state.specs.Facts.{state-sound}
 use Rattle.requester.proofs.Tests.{sending-state, sending-2, sending-times, sending-13, sending-0}

@@ -1,3 +1,4 @@
+-- Each test in turn.
 use Rattle.std.proofs.Common.{arith, lit<}
 use Rattle.laws.specs.RouterRepresent.{lent_length}
 use Rattle.requester.proofs.Tests.{times-small, times-11, times-12, times-0}

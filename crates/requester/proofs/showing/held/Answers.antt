@@ -1,3 +1,4 @@
+-- Each test in turn, then the bytes of the hold.
 use Rattle.std.proofs.Common.{arith}
 use Rattle.state.specs.Facts.{state-size}
 use Rattle.requester.proofs.Acting.{shown-refused, shown-2, shown-none, shown-held}

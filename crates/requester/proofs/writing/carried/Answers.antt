@@ -1,3 +1,4 @@
+-- The delegation in its place.
 use Rattle.requester.proofs.Message.{carried-made}
 use Rattle.requester.proofs.writing.carried.Goals as goal
 

@@ -1,3 +1,4 @@
+-- One prefix at most.
 use Rattle.std.proofs.Common.{arith}
 use Rattle.requester.proofs.Message.{open-long, pd-made}
 use Rattle.requester.proofs.writing.pd_of.Goals as goal

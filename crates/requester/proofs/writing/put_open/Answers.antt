@@ -1,3 +1,4 @@
+-- The parts are those of the message that the rules name.
 use Rattle.std.proofs.Common.{arith}
 use Rattle.requester.proofs.Message.{open-long, server-few, put-able, put-made}
 use Rattle.requester.proofs.writing.put_open.Goals as goal

@@ -1,3 +1,4 @@
+-- A zero prefix.
 use Rattle.requester.proofs.Message.{wanted-made}
 use Rattle.requester.proofs.writing.wanted.Goals as goal
 

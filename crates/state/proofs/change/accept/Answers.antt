@@ -1,3 +1,4 @@
+-- `accept` writes what is held, and the server where one is given.
 use Rattle.std.proofs.Common.{arith}
 use Rattle.laws.specs.RouterChange.{accept-kept, accept-told}
 use Rattle.laws.specs.RouterRepresent.{lent_length}

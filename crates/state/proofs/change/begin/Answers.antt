@@ -1,3 +1,4 @@
+-- `begin` writes the new exchange, and for a Release frees the hold.
 use Rattle.std.proofs.Common.{arith}
 use Rattle.laws.specs.RouterChange.{begin-kept, begin-freed}
 use Rattle.laws.specs.RouterRepresent.{lent_length}

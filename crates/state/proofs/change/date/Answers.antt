@@ -1,3 +1,4 @@
+-- `date` writes two times and a number.
 use Rattle.laws.specs.RouterChange.{onto}
 use Rattle.state.proofs.change.date.Goals as goal
 

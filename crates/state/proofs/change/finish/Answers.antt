@@ -1,3 +1,4 @@
+-- `finish` writes a time, and zeros for the exchange.
 use Rattle.laws.specs.RouterChange.{onto}
 use Rattle.state.proofs.change.finish.Goals as goal
 

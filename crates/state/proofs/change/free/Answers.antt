@@ -1,3 +1,4 @@
+-- `free` writes a time, and zeros for the hold.
 use Rattle.laws.specs.RouterChange.{onto}
 use Rattle.state.proofs.change.free.Goals as goal
 

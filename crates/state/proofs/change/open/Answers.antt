@@ -1,3 +1,4 @@
+-- `open` writes the type, and behind it the delegation.
 use Rattle.std.proofs.Common.{arith}
 use Rattle.laws.specs.RouterChange.{byte-written}
 use Rattle.state.proofs.change.open.Goals as goal

@@ -1,3 +1,4 @@
+-- `put_duid`: its length, and its bytes with zeros behind them.
 use borrow.Author.Rules.{rules}
 use Rattle.laws.specs.RouterChange.{duid-written}
 use Rattle.state.proofs.change.put_duid.Goals as goal

@@ -1,3 +1,4 @@
+-- `stamp` writes four times.
 use Rattle.laws.specs.RouterChange.{onto}
 use Rattle.state.proofs.change.stamp.Goals as goal
 

@@ -1,3 +1,4 @@
+-- `start` writes a fresh state, field by field.
 use Rattle.laws.specs.RouterChange.{start-made}
 use Rattle.state.proofs.change.start.Goals as goal
 

@@ -1,3 +1,4 @@
+-- `kept` copies the bytes of what is held.
 use Rattle.std.proofs.Common.{refl, ◌∙◌, arith}
 use Rattle.laws.specs.Parts.{copied}
 use Rattle.laws.specs.RouterChange.{held_bytes_lem}

@@ -1,3 +1,4 @@
+-- `less` writes the excluded prefix and its length.
 use Rattle.laws.specs.RouterChange.{onto}
 use Rattle.state.proofs.hold.less.Goals as goal
 

@@ -1,3 +1,4 @@
+-- `made` writes the flag, the prefix and the end, and the excluded prefix where there is one.
 use Rattle.std.proofs.Common.{get_or}
 use borrow.Author.Rules.{rules}
 use mir.Syntax.{w8}

@@ -1,3 +1,4 @@
+-- By the code.
 use Rattle.std.proofs.Common.{◌∙◌, eq-eqb, ne_eqb}
 use Rattle.wire.proofs.check.in_prefix.Goals as goal
 

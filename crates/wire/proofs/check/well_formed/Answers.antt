@@ -1,3 +1,4 @@
+-- By what the walk over the message gives.
 use Rattle.std.proofs.Common.{◌∙◌, ap, sym}
 use Rattle.rules.specs.Message.{well_formed}
 use Rattle.rules.specs.Options.{is_good}

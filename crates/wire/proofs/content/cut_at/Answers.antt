@@ -1,3 +1,4 @@
+-- The content is a part of the message, and what it unpacks to is read.
 use Rattle.std.proofs.Common.{◌∙◌, ◌≡◌, ◌<◌, arith, get_or, length}
 use mir.Syntax.{w8}
 use mir.Val.{Fits}
@@ -8,6 +9,7 @@ use Rattle.wire.proofs.content.cut_at.Goals as goal
 
 pub slice_bounds-unpack-count : goal.slice_bounds-unpack-count
 slice_bounds-unpack-count c =
+    -- the content has a first byte, and the prefix is sixteen bytes
     let full : 0 < c.args.len = exclude-some c.args.msg.now c.args.a c.args.start c.args.len c.requires.1 in
     omega (arith, full)
 

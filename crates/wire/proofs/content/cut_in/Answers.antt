@@ -1,3 +1,4 @@
+-- The first PD Exclude, which is good in a good area, or none.
 use Rattle.std.proofs.Common.{◌∙◌, ◌≡◌, ap, sym, arith}
 use Rattle.rules.specs.Message.{except_at}
 use Rattle.rules.specs.Options.{area_of, nth}
@@ -11,6 +12,7 @@ use Rattle.wire.proofs.content.cut_in.Goals as goal
 
 pub cut_at-requires : goal.cut_at-requires
 cut_at-requires c =
+    -- where it was found
     let was : nth 67 0 (area_of c.args.msg.now c.args.at c.args.end) ≡ At c.in-At.place c.in-At.start c.in-At.len = cc in
     let w = was in
     (omega (arith, c.requires.0, nth_inside 67 0 c.args.msg.now c.args.at c.args.end w), good-exclude c.args.msg.now c.args.a 0 c.args.at c.args.end c.requires.1 w)

@@ -1,3 +1,4 @@
+-- Each field is read at its place.
 use Rattle.std.proofs.Common.{◌≡◌, subst, sym, ◌+◌, ℕ, arith}
 use Rattle.rules.specs.Options.{check_prefix}
 use Rattle.rules.specs.declared.Checked.TheVariants.{Good}

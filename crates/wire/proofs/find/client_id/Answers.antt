@@ -1,3 +1,4 @@
+-- The Client ID that was found lies in the message; its content is that part of it.
 use Rattle.std.proofs.Common.{◌∙◌, ◌≡◌, sym, ◌+◌, ◌≤◌, arith, length}
 use Rattle.rules.specs.Options.{area_of, nth}
 use Rattle.rules.specs.declared.Found.TheVariants.{At}
@@ -10,6 +11,7 @@ returns-then-count_of-ne1 c = client-other c.args.msg.now c.count_of.ensures c.i
 
 pub overflow_add-result : goal.overflow_add-result
 overflow_add-result c =
+    -- where it was found
     let was : nth 1 0 (area_of c.args.msg.now 4 (length c.args.msg.now)) ≡ At c.in-At.place c.in-At.start c.in-At.len = cc in
     let inside : c.in-At.start + c.in-At.len ≤ length c.args.msg.now = nth_inside _ _ _ _ _ was in
     omega (arith, inside)

@@ -4,6 +4,7 @@ use Rattle.wire.proofs.find.count_of.Goals as goal
 
 pub overflow_add-n : goal.overflow_add-n
 overflow_add-n c =
+    -- the option that a turn found
     let found : Stepped c.args.msg.now c.loop-code.p c.args.end c.in-Opt.code c.in-Opt.start c.in-Opt.len c.in-Opt.next = stepped _ _ _ (cc) in
     omega (arith, found)
 

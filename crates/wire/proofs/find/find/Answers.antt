@@ -5,6 +5,7 @@ use Rattle.wire.proofs.find.find.Goals as goal
 
 pub returns-then-left-eq0 : goal.returns-then-left-eq0
 returns-then-left-eq0 c =
+    -- the option that a turn found
     let found : Stepped c.args.msg.now c.loop-code.p c.args.end c.in-Opt.code c.in-Opt.start c.in-Opt.len c.in-Opt.next = stepped _ _ _ (cc) in
     sym (c.loop-code.invariant ∙ nth_here _ found c.if-code-w.true c.if-left-eq0.true)
 

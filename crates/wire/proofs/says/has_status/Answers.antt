@@ -15,7 +15,9 @@ loop-code-init c = any-map (eqb c.args.k) (status_at c.args.msg.now) (options 13
 
 pub returns-then-code-k : goal.returns-then-code-k
 returns-then-code-k c =
+    -- the option that a turn found
     let found : Stepped c.args.msg.now c.loop-code.p c.args.end c.in-Opt.code c.in-Opt.start c.in-Opt.len c.in-Opt.next = stepped _ _ _ (cc) in
+    -- what it says
     let said : eqb c.in-Opt.code 13 && eqb c.args.k c.u16_at.result ≡ eqb c.in-Opt.code 13 && says c.args.msg.now c.args.k (At c.loop-code.p c.in-Opt.start c.in-Opt.len) = ap (λ (x : ℕ). eqb c.in-Opt.code 13 && eqb c.args.k x) c.u16_at.ensures.0 in
     sym (c.loop-code.invariant ∙ any-hit _ _ found said c.if-code-k.true)
 

@@ -1,3 +1,4 @@
+-- The two bytes at a place: past the end both are 0.
 use Rattle.std.proofs.Common.{sym}
 use borrow.Author.Rules.{rules}
 use Rattle.laws.specs.Steps.{u16-past}

@@ -1,3 +1,4 @@
+-- The byte at a place: past the end it is 0.
 use Rattle.std.proofs.Common.{sym}
 use Rattle.std.proofs.Math.ListN.{get_or-eq_default}
 use borrow.Author.Rules.{rules}
