@@ -2,7 +2,7 @@
 use mathlib.Core.Path.{◌≡◌, refl, sym, ap, ◌∙◌}
 use mathlib.Core.Bool.{Bool, true, false, cond, not, ◌&&◌, ◌||◌, and-true, and_assoc, or-false}
 use mathlib.Core.List.{List, map}
-use mathlib.Core.Option.{none, some}
+use Rattle.std.specs.Prelude.{None, Some}
 use Prim.Native.Nat.{ℕ, ◌+◌, ◌-◌, ◌%◌, ◌≤◌, ◌<◌}
 use native.Mathlib.Omega.{arith}
 use native.Mathlib.Nat.{add-sub_cancel_left}
@@ -103,7 +103,7 @@ known_same : (b : List ℕ) (d : Duid) → 3 ≤ length d → any (same_bytes d)
 unfolding part
 known_same b d h = by (eqb (num_at b 172 1) 0) refl
   where
-    by : (t : Bool) → eqb (num_at b 172 1) 0 ≡ t → any (same_bytes d) (servers_of (cond t none (some (duid_at b 172)))) ≡ same_bytes (duid_at b 172) d
+    by : (t : Bool) → eqb (num_at b 172 1) 0 ≡ t → any (same_bytes d) (servers_of (cond t None (Some (duid_at b 172)))) ≡ same_bytes (duid_at b 172) d
     by true e =
         let z = eqb-true (num_at b 172 1) 0 e in
         let l : length (duid_at b 172) ≡ 0 = ap (λ n. length (part 173 n b)) z in
@@ -237,7 +237,7 @@ module _ (b m : List ℕ) {k : ℕ} (ek : k ≡ num_at b 346 1) {x : Bool} (ex :
   unfolding awaited
   not-awaited h = by (eqb k 0) h ∙ sym (ap (awaited (router_of b) m (read m)) (exchange-is b ek))
     where
-      by : (t : Bool) → t || not x ≡ true → false ≡ awaited (router_of b) m (read m) (cond t none (some (open_as b k)))
+      by : (t : Bool) → t || not x ≡ true → false ≡ awaited (router_of b) m (read m) (cond t None (Some (open_as b k)))
       by true h = refl
       by false h = rw (← ex, not-true x h)
 
@@ -251,7 +251,7 @@ module _ (b m : List ℕ) {k : ℕ} (ek : k ≡ num_at b 346 1) {x : Bool} (ex :
       let v = read m in
       let r = router_of b in
       let n = neither (eqb k 0) (not x) h in
-      let o : (router_of b).exchange ≡ some (open_as b k) = exchange-is b ek ∙ rw n.0 in
+      let o : (router_of b).exchange ≡ Some (open_as b k) = exchange-is b ek ∙ rw n.0 in
       rw (ep, eq, eu, ew)
       (tests_order (not (wrong_size m) && well_formed m) (eqb v.kind (answer_type (kind_of k))) (eqb v.number (number_before r.next))
       (stands true v.clients) (all (same_bytes r.me.duid) v.clients) (from_server (kind_of k) r.server v.servers)

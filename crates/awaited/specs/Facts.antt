@@ -4,11 +4,10 @@
 --   kind-type, kind-served   the open exchange's type is a served one
 --   only-formed              the one IA_PD of a well-formed message
 --   Awaited, awaited-facts   the parts of `awaited` that the acceptance needs
-use Rattle.std.specs.Prelude.{◌≡◌, Bool, cond, not, ◌&&◌, List, ◌++◌, ℕ, ◌≤◌, leb, length, get_or}
+use Rattle.std.specs.Prelude.{◌≡◌, Bool, cond, not, ◌&&◌, List, ◌++◌, ℕ, ◌≤◌, leb, length, get_or, None, Some}
 use Rattle.std.proofs.Math.Path.{refl}
 use Rattle.std.proofs.Common.{sym, ap, ◌∙◌}
 use Rattle.std.proofs.Math.Bool.{true, false}
-use Rattle.std.proofs.Math.Option.{none, some}
 use native.Mathlib.Omega.{arith}
 use borrow.Author.Tests.{eqb-true, eqb-false, ne_eqb, leb-true}
 use Rattle.std.proofs.Math.Dec.{eqb}
@@ -61,14 +60,14 @@ module _ (b : List ℕ) (sound : sound_router_bytes b ≡ true) where
       let f = sound-facts (router_of b) (router-sound-bytes b sound).0 in
       record { room = omega (arith, lent_length b sound); few = by (eqb (num_at b 172 1) 0) refl f.server (field_at (lent-fields b sound) 8 (omega arith)) }
     where
-      by : (t : Bool) → eqb (num_at b 172 1) 0 ≡ t → good_server (cond t none (some (duid_at b 172))) ≡ true → part 172 131 b ≡ server_bytes (cond t none (some (duid_at b 172))) → num_at b 172 1 ≤ 130
+      by : (t : Bool) → eqb (num_at b 172 1) 0 ≡ t → good_server (cond t None (Some (duid_at b 172))) ≡ true → part 172 131 b ≡ server_bytes (cond t None (Some (duid_at b 172))) → num_at b 172 1 ≤ 130
       by true e g q = let z = eqb-true (num_at b 172 1) 0 e in omega arith
       by false e g q = behind b 172 (duid_at b 172) g q
 
   module _ {k : ℕ} (ek : k ≡ num_at b 346 1) (o : k ≡ 0 → ⊥) where
     pub kind-type : k ≡ type_of (kind_of k)
     kind-type =
-        let x : (router_of b).exchange ≡ some (open_as b k) = exchange-is b ek ∙ rw (ne_eqb k 0 o) in
+        let x : (router_of b).exchange ≡ Some (open_as b k) = exchange-is b ek ∙ rw (ne_eqb k 0 o) in
         ek ∙ (open-type b (router_of b).exchange (field_at (lent-fields b sound) 10 (omega arith)) (ap is_open x)).1 ∙ ap (λ y. type_of (open_of y).kind) x
 
     pub kind-served : served k ≡ true
@@ -90,7 +89,7 @@ pub awaited-facts : (b m : List ℕ) {k : ℕ} → k ≡ num_at b 346 1 → awai
 unfolding awaited
 awaited-facts b m {k} ek h = by (eqb k 0) refl (sym (ap (awaited (router_of b) m (read m)) (exchange-is b ek)) ∙ h)
   where
-    by : (t : Bool) → eqb k 0 ≡ t → awaited (router_of b) m (read m) (cond t none (some (open_as b k))) ≡ true → Awaited b m k
+    by : (t : Bool) → eqb k 0 ≡ t → awaited (router_of b) m (read m) (cond t None (Some (open_as b k))) ≡ true → Awaited b m k
     by true e h = absurd (false-true h)
     by false e h =
         let r = router_of b in

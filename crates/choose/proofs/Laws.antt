@@ -2,7 +2,7 @@
 use mathlib.Core.Path.{◌≡◌, refl, sym, ap, ◌∙◌, subst}
 use mathlib.Core.Bool.{Bool, true, false}
 use mathlib.Core.List.{List}
-use mathlib.Core.Option.{Option, none, some}
+use Rattle.std.specs.Prelude.{Option, None, Some}
 use Prim.Native.Nat.{ℕ, ◌+◌, ◌-◌, ◌*◌, ◌/◌, ◌%◌, ◌^◌, ◌≤◌, ◌<◌}
 use native.Mathlib.Omega.{arith}
 use lib.Dec.{leb}
@@ -50,8 +50,8 @@ module _ {l : List ℕ} {n pool width a : ℕ} (w : Walkable l n pool width × (
     tried : first (hits (prefix (k * size a) a)) (recs l n) ≡ at (record_at l) (place_of r)
     tried = ap (λ (y : ℕ). first (hits (prefix y a)) (recs l n)) (sym place-x) ∙ first-place (record_at l) (hits (upper x a)) n 0 ∙ ap (at (record_at l)) (sym er)
 
-    pub free : r ≡ Nothing → some (x * 2 ^ 64) ≡ lowest bare (recs l n) a
-    free q = ap some place-x ∙ sym (walk-free bare (recs l n) a w.0.zeros w.1 k g (tried ∙ ap (λ (p : Place). at (record_at l) (place_of p)) q))
+    pub free : r ≡ Nothing → Some (x * 2 ^ 64) ≡ lowest bare (recs l n) a
+    free q = ap Some place-x ∙ sym (walk-free bare (recs l n) a w.0.zeros w.1 k g (tried ∙ ap (λ (p : Place). at (record_at l) (place_of p)) q))
 
     module _ {i : ℕ} (q : r ≡ At i) where
       passed : (0 ≤ i) × (i < 0 + n) × (hits (upper x a) (record_at l i) ≡ true)
@@ -65,11 +65,11 @@ module _ {l : List ℕ} {n pool width a : ℕ} (w : Walkable l n pool width × (
             leb-true _ _ (all-at (record_at l) (λ r. leb (area r).length 60) n 0 i p.0 p.1 w.0.short),
           )
 
-      hit : first (hits (prefix (k * size a) a)) (recs l n) ≡ some (record_at l i)
+      hit : first (hits (prefix (k * size a) a)) (recs l n) ≡ Some (record_at l i)
       hit = tried ∙ ap (λ (p : Place). at (record_at l) (place_of p)) q
 
       module _ {k' : ℕ} (ek : k' ≡ last_place (area (record_at l i)) a + 1) where
-        pub full : last < k' → none ≡ lowest bare (recs l n) a
+        pub full : last < k' → None ≡ lowest bare (recs l n) a
         full h = sym (walk-full bare (recs l n) a w.0.zeros w.1 k g w.0.aligned (record_at l i) hit (omega (arith, e.0)))
 
         pub on : k' ≤ last → Walking bare (recs l n) a k'
@@ -84,14 +84,14 @@ module _ {l : List ℕ} {n pool width a : ℕ} (w : Walkable l n pool width × (
 pub wide_enough : (pool width shortest standard a : ℕ) {w : ℕ} → Lengths (chooser pool width shortest standard) → w ≡ wanted_for (chooser 0 0 shortest standard) a → width ≤ w
 unfolding wanted
 wide_enough pool width shortest standard a g e =
-    let h = wanted-least (chooser pool width shortest standard) g (some (prefix 0 a)) in
+    let h = wanted-least (chooser pool width shortest standard) g (Some (prefix 0 a)) in
     rw e (omega (arith, h.0, g.pool-shortest))
 
 module _ (l : List ℕ) (n pool width shortest standard : ℕ) where
   abbrev set : Settings
   set = chooser pool width shortest standard
 
-  pub none_left : (h : Option Prefix) → 256 ≤ n → none ≡ choose set (recs l n) h
+  pub none_left : (h : Option Prefix) → 256 ≤ n → None ≡ choose set (recs l n) h
   none_left h e = sym (choose-full set (recs l n) h (rw (from-length (record_at l) n 0) e))
 
   module _ (few : n < 256) (hinted : Bool) (u m a : ℕ) where
@@ -103,14 +103,14 @@ module _ (l : List ℕ) (n pool width shortest standard : ℕ) where
         e ∙ same-shortest (chooser pool width 0 0) set (recs l n) refl (61 - standard) standard
         ∙ sym (rw q (choose-unasked set (recs l n) room))
 
-    module _ (q : hinted ≡ true) (b : Bool) (eb : b ≡ is_place (chooser pool width shortest 0) (recs l n) (some (prefix (u * 2 ^ 64 + m) a))) where
-      place_is : is_place set (recs l n) (some (prefix (u * 2 ^ 64 + m) a)) ≡ b
-      place_is = same_place set (chooser pool width shortest 0) (recs l n) refl refl (some (prefix (u * 2 ^ 64 + m) a)) ∙ sym eb
+    module _ (q : hinted ≡ true) (b : Bool) (eb : b ≡ is_place (chooser pool width shortest 0) (recs l n) (Some (prefix (u * 2 ^ 64 + m) a))) where
+      place_is : is_place set (recs l n) (Some (prefix (u * 2 ^ 64 + m) a)) ≡ b
+      place_is = same_place set (chooser pool width shortest 0) (recs l n) refl refl (Some (prefix (u * 2 ^ 64 + m) a)) ∙ sym eb
 
-      pub asked : m < 2 ^ 64 → b ≡ true → some (upper u a) ≡ choose set (recs l n) (hint_of hinted u m a)
+      pub asked : m < 2 ^ 64 → b ≡ true → Some (upper u a) ≡ choose set (recs l n) (hint_of hinted u m a)
       asked f t =
           let p = place_is ∙ t in
-          sym (rw q (choose-asked set (recs l n) room (prefix (u * 2 ^ 64 + m) a) p ∙ ap some (hint-place set (recs l n) u m a f p)))
+          sym (rw q (choose-asked set (recs l n) room (prefix (u * 2 ^ 64 + m) a) p ∙ ap Some (hint-place set (recs l n) u m a f p)))
 
       pub other : {c : Option Prefix} {w : ℕ} → b ≡ false → w ≡ wanted_for (chooser 0 0 shortest standard) a
           → c ≡ shortest_from (61 - w) (chooser pool width 0 0) (recs l n) w → c ≡ choose set (recs l n) (hint_of hinted u m a)

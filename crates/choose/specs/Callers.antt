@@ -1,7 +1,6 @@
 -- What callers show with the records and settings of a sound table, and what they get.
-use Rattle.std.specs.Prelude.{◌≡◌, refl, true, List, ℕ, ◌≤◌, leb, length}
+use Rattle.std.specs.Prelude.{◌≡◌, refl, true, List, ℕ, ◌≤◌, leb, length, Option}
 use Rattle.std.proofs.Common.{sym, ap, subst, arith, le-leb}
-use Rattle.std.proofs.Math.Option.{Option}
 use Rattle.rules.specs.Words.{all, from}
 use Rattle.rules.specs.Prefix.{Prefix, zero_after}
 use Rattle.rules.specs.Settings.{Settings, good_settings}

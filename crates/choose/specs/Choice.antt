@@ -1,6 +1,5 @@
 -- What the types of this crate stand for, and what the walk asks of a table.
-use Rattle.std.specs.Prelude.{◌≡◌, Bool, true, false, List, [], ℕ, ◌+◌, ◌*◌, ◌^◌, ◌≤◌, leb, length}
-use Rattle.std.proofs.Math.Option.{Option, none, some}
+use Rattle.std.specs.Prelude.{◌≡◌, Bool, true, false, List, [], ℕ, ◌+◌, ◌*◌, ◌^◌, ◌≤◌, leb, length, Option, None, Some}
 use Rattle.rules.specs.Words.{all, from}
 use Rattle.rules.specs.Prefix.{Prefix, prefix, zero_after}
 use Rattle.rules.specs.Settings.{Settings}
@@ -14,17 +13,17 @@ use Rattle.choose.specs.declared.walk.Choice.{Choice}
 use Rattle.choose.specs.declared.walk.Choice.TheVariants.{Chosen, Nothing}
 
 abbrev pub spot_of : Spot → Option ℕ
-spot_of (Free x) = some (x * 2 ^ 64)
-spot_of Full = none
+spot_of (Free x) = Some (x * 2 ^ 64)
+spot_of Full = None
 
 abbrev pub choice_of : Choice → Option Prefix
-choice_of (Chosen p a) = some (upper p a)
-choice_of Nothing = none
+choice_of (Chosen p a) = Some (upper p a)
+choice_of Nothing = None
 
 -- a hint by the halves of its bits, or none
 abbrev pub hint_of : Bool → ℕ → ℕ → ℕ → Option Prefix
-hint_of true u l n = some (prefix (u * 2 ^ 64 + l) n)
-hint_of false u l n = none
+hint_of true u l n = Some (prefix (u * 2 ^ 64 + l) n)
+hint_of false u l n = None
 
 -- settings of which a choice reads the pool and two lengths
 abbrev pub chooser : ℕ → ℕ → ℕ → ℕ → Settings

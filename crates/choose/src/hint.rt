@@ -1,6 +1,5 @@
 // A hint: the length that is wanted, and whether its prefix can be had as it is.
 ghost use Rattle.std.specs.Prelude.{◌≡◌, not, ◌&&◌, ◌+◌, ◌*◌, ◌≤◌, ◌<◌, ◌^◌, eqb, leb, length};
-ghost use Rattle.std.proofs.Math.Option.{some};
 ghost use Rattle.rules.specs.Words.{from};
 ghost use Rattle.rules.specs.Prefix.{prefix, zero_after, inside};
 ghost use Rattle.rules.specs.TableBytes.{record_at};
@@ -58,7 +57,7 @@ pub fn is_place(
     a: u64,
 ) -> bool
     requires { (n ≤ 256) × (39344 ≤ length t.now) }
-    ensures { result ≡ is_place (chooser pool width shortest 0) (from (record_at t.now) 0 n) (some (prefix (high * 2 ^ 64 + low) a)) }
+    ensures { result ≡ is_place (chooser pool width shortest 0) (from (record_at t.now) 0 n) (Some (prefix (high * 2 ^ 64 + low) a)) }
 {
     if low != 0 {
         return false;

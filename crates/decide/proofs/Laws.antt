@@ -8,7 +8,7 @@
 use mathlib.Core.Path.{◌≡◌, refl, sym, ap, ◌∙◌}
 use mathlib.Core.Bool.{Bool, true, false, cond, not, ◌&&◌}
 use mathlib.Core.List.{List, [], ◌∷◌}
-use mathlib.Core.Option.{Option, none, some}
+use Rattle.std.specs.Prelude.{Option, None, Some}
 use Prim.Native.Nat.{ℕ, zero, suc, ◌/◌, ◌%◌, ◌^◌, ◌≤◌, ◌<◌}
 use native.Mathlib.Nat.{zero-add, div-add-mod'}
 use native.Mathlib.Omega.{arith}
@@ -68,14 +68,14 @@ module _ (b : List ℕ) (h : sound_bytes b ≡ true) where
 -- ---------------------------------------------------------------- the identity's record, looked for
 
 module _ (b : List ℕ) (who : Identity) (n : ℕ) (en : n ≡ count_of b) (r : Place) (e : place_of r ≡ first_place (is_binding who) (from (record_at b) 0 n) 0) where
-  pub found : {k : ℕ} → r ≡ At k → first_place (is_binding who) (table_of b).records 0 ≡ some k
+  pub found : {k : ℕ} → r ≡ At k → first_place (is_binding who) (table_of b).records 0 ≡ Some k
   unfolding table_of
   found q = rw (← en) (sym e ∙ ap place_of q)
 
   pub found-there : {k : ℕ} → r ≡ At k → k < count_of b
   found-there {k} q = let p = place-passes (record_at b) (is_binding who) n 0 k (sym e ∙ ap place_of q) in omega (arith, p.1)
 
-  pub missing : r ≡ Nothing → binding who (table_of b).records ≡ none
+  pub missing : r ≡ Nothing → binding who (table_of b).records ≡ None
   unfolding table_of
   missing q = rw (← en) (first-place (record_at b) (is_binding who) n 0 ∙ ap (at (record_at b)) (sym e ∙ ap place_of q))
 
@@ -88,8 +88,8 @@ both-are p q = rw (p, q)
 abbrev lent : Binding → Delegation
 lent r = record { prefix = r.prefix; length = r.length; excluded = r.excluded }
 
-module _ (b : List ℕ) (k : ℕ) (who : Identity) (place : first_place (is_binding who) (table_of b).records 0 ≡ some k) where
-  theirs : binding who (table_of b).records ≡ some (record_at b k)
+module _ (b : List ℕ) (k : ℕ) (who : Identity) (place : first_place (is_binding who) (table_of b).records 0 ≡ Some k) where
+  theirs : binding who (table_of b).records ≡ Some (record_at b k)
   unfolding table_of
   theirs = first-place (record_at b) (is_binding who) (count_of b) 0 ∙ ap (at (record_at b)) place
 
@@ -142,7 +142,7 @@ module _ (b : List ℕ) (h : sound_bytes b ≡ true) (k : ℕ) (there : k < coun
       extending who back = leaves (extend who now (settings_of b).valid (table_of b).records) (offer (record_at b k).lease (cond back (others (record_at b k).lease.prefix xs) []))
 
       bound-extended : (kind : Kind) (back : Bool)
-          → ((q : Asked) → q.listed ≡ xs → binding q.who (table_of b).records ≡ some (record_at b k) → extending q.who back ≡ serve (settings_of b) now q (table_of b).records kind)
+          → ((q : Asked) → q.listed ≡ xs → binding q.who (table_of b).records ≡ Some (record_at b k) → extending q.who back ≡ serve (settings_of b) now q (table_of b).records kind)
           → Bound b now kind k xs (Extend k end (lent r) back)
       bound-extended kind back serves = record {
         decided = λ who asks p. record {
@@ -233,7 +233,7 @@ module _ (b : List ℕ) (now : Moment) (asks : Bool) (xs : List Listed) where
       abbrev fresh : Delegation
       fresh = record { prefix = p; length = a; excluded = x && asks }
 
-      got : choose (settings_of b) (table_of b).records (hint_of xs) ≡ some (upper p a)
+      got : choose (settings_of b) (table_of b).records (hint_of xs) ≡ Some (upper p a)
       got = sym e ∙ ap choice_of q
 
       able : Aligned fresh
@@ -262,15 +262,15 @@ module _ (b : List ℕ) (h : sound_bytes b ≡ true) (now : Moment) (who : Ident
   live-is : binding who (current now (table_of b).records) ≡ if_live now (binding who (table_of b).records)
   live-is = binding-current who now (table_of b).records (held b h).sound.together
 
-  pub live-found : {k : ℕ} {l : Bool} → first_place (is_binding who) (table_of b).records 0 ≡ some k → l ≡ live now (record_at b k)
+  pub live-found : {k : ℕ} {l : Bool} → first_place (is_binding who) (table_of b).records 0 ≡ Some k → l ≡ live now (record_at b k)
       → l ≡ is_there (binding who (current now (table_of b).records))
   live-found {k} {l} p e = sym (rw (live-is, theirs b k who p) (by (live now (record_at b k)) e))
     where
-      by : (c : Bool) → l ≡ c → is_there (cond c (some (record_at b k)) none) ≡ l
+      by : (c : Bool) → l ≡ c → is_there (cond c (Some (record_at b k)) None) ≡ l
       by true q = sym q
       by false q = sym q
 
-  pub live-missing : binding who (table_of b).records ≡ none → false ≡ is_there (binding who (current now (table_of b).records))
+  pub live-missing : binding who (table_of b).records ≡ None → false ≡ is_there (binding who (current now (table_of b).records))
   live-missing n = rw (live-is, n)
 
 -- whether every listed prefix is gone, by the numbers of the pool
@@ -287,6 +287,6 @@ module _ (s : Settings) (now : Moment) (q : Asked) (rs : List Record) where
   silent-rebind {g = g} el eg = rw el (by (binding q.who rs) g eg)
     where
       by : (f : Option Record) (g : Bool) → g ≡ gone s q.listed → not (is_there f) && not g ≡ is_silence (serve_rebind s now q rs f).verdict
-      by (some r) g e = refl
-      by none true e = rw (← e)
-      by none false e = rw (← e)
+      by (Some r) g e = refl
+      by None true e = rw (← e)
+      by None false e = rw (← e)

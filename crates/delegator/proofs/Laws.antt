@@ -2,14 +2,14 @@
 use mathlib.Core.Path.{◌≡◌, refl, sym, ap, ◌∙◌}
 use mathlib.Core.Bool.{Bool, true, false, not, ◌&&◌}
 use mathlib.Core.List.{List, [], ◌∷◌, map}
-use mathlib.Core.Option.{Option, none, some}
+use Rattle.std.specs.Prelude.{Option, None, Some, slice_get}
 use Prim.Native.Nat.{ℕ, zero, suc, ◌+◌, ◌-◌, ◌*◌, ◌^◌, ◌≤◌, ◌<◌}
 use native.Mathlib.Omega.{arith}
 use borrow.Author.Tests.{eqb-true, not-false, leb-true, le-leb, lt-leb, lt-ltb, le-ltb}
 use lib.Arith.{digits_lt}
 use lib.Dec.{eqb, leb, ltb}
 use native.Mathlib.Nat.{zero-add}
-use lib.ListN.{length, take, drop, get_elem?}
+use lib.ListN.{length, take, drop}
 use lib.Pow.{high, low}
 use Rattle.rules.specs.Words.{keep, from, splice, part}
 use Rattle.rules.specs.Refusals.{Res, unless, done, bad_time}
@@ -148,27 +148,27 @@ table-held b {x} e s = held b (sym e ∙ not-false x s)
 
 -- the bytes of the record at a place
 abbrev text_at : Option (List ℕ) → List ℕ
-text_at none = []
-text_at (some e) = e
+text_at None = []
+text_at (Some e) = e
 
-text-map : (rs : List Record) (i : ℕ) → record_text (get_elem? rs i) ≡ text_at (get_elem? (map record_bytes rs) i)
+text-map : (rs : List Record) (i : ℕ) → record_text (slice_get rs i) ≡ text_at (slice_get (map record_bytes rs) i)
 text-map [] i = refl
 text-map (r ∷ rs) zero = refl
 text-map (r ∷ rs) (suc i) = text-map rs i
 
-from-there : {A : Type 0} (f : ℕ → A) (n i j : ℕ) → j < n → get_elem? (from f i n) j ≡ some (f (i + j))
+from-there : {A : Type 0} (f : ℕ → A) (n i j : ℕ) → j < n → slice_get (from f i n) j ≡ Some (f (i + j))
 from-there f zero i j h = absurd (omega arith)
-from-there f (suc n) i zero h = let m : i ≡ i + 0 = omega arith in ap (λ k. some (f k)) m
-from-there f (suc n) i (suc j) h = let m : i + 1 + j ≡ i + suc j = omega arith in from-there f n (i + 1) j (omega arith) ∙ ap (λ k. some (f k)) m
+from-there f (suc n) i zero h = let m : i ≡ i + 0 = omega arith in ap (λ k. Some (f k)) m
+from-there f (suc n) i (suc j) h = let m : i + 1 + j ≡ i + suc j = omega arith in from-there f n (i + 1) j (omega arith) ∙ ap (λ k. Some (f k)) m
 
-from_past : {A : Type 0} (f : ℕ → A) (n i j : ℕ) → n ≤ j → get_elem? (from f i n) j ≡ none
+from_past : {A : Type 0} (f : ℕ → A) (n i j : ℕ) → n ≤ j → slice_get (from f i n) j ≡ None
 from_past f zero i j h = refl
 from_past f (suc n) i zero h = absurd (omega arith)
 from_past f (suc n) i (suc j) h = from_past f n (i + 1) j (omega arith)
 
 module _ (b : List ℕ) (i : ℕ) (out : List ℕ) {x : Bool} (e : x ≡ sound_bytes b) where
   abbrev shown : Res (List ℕ)
-  shown = done (record_text (get_elem? (table_of b).records i))
+  shown = done (record_text (slice_get (table_of b).records i))
 
   shown-is : box_shown b i out ≡ asked b out (unless ((9, not (sound_bytes b)) ∷ (2, ltb (length out) record_size) ∷ []) shown)
   unfolding box_shown
@@ -182,13 +182,13 @@ module _ (b : List ℕ) (i : ℕ) (out : List ℕ) {x : Bool} (e : x ≡ sound_b
     shown-2 h = sym (shown-is ∙ rw (← e, s, lt-ltb (length out) 153 h))
 
     module _ (room : 153 ≤ length out) {n : ℕ} (c : n ≡ count_of b) where
-      text-is : record_text (get_elem? (table_of b).records i) ≡ text_at (get_elem? (from (row_at b) 0 (count_of b)) i)
+      text-is : record_text (slice_get (table_of b).records i) ≡ text_at (slice_get (from (row_at b) 0 (count_of b)) i)
       text-is =
           let g = table-held b e s in
           text-map (table_of b).records i
-          ∙ ap (λ l. text_at (get_elem? l i)) (sym (table-rows (table_of b) g.sound) ∙ ap (λ l. from (row_at l) 0 (length (table_of b).records)) g.is ∙ ap (from (row_at b) 0) (sym g.count))
+          ∙ ap (λ l. text_at (slice_get l i)) (sym (table-rows (table_of b) g.sound) ∙ ap (λ l. from (row_at l) 0 (length (table_of b).records)) g.is ∙ ap (from (row_at b) 0) (sym g.count))
 
-      made : {l : List ℕ} → record_text (get_elem? (table_of b).records i) ≡ l → box_shown b i out ≡ ended (length l) b (splice 0 l out)
+      made : {l : List ℕ} → record_text (slice_get (table_of b).records i) ≡ l → box_shown b i out ≡ ended (length l) b (splice 0 l out)
       made q = shown-is ∙ rw (← e, s, le-ltb (length out) 153 room) (ap (λ l. ended (length l) b (splice 0 l out)) q)
 
       pub shown-none : n ≤ i → ended 0 b out ≡ box_shown b i out

@@ -1,6 +1,5 @@
 -- The Status Codes of an IA_PD change nothing of what the box does.
-use Rattle.std.specs.Prelude.{◌≡◌, refl, Bool, true, false, not, List, [], ◌∷◌, map}
-use Rattle.std.proofs.Math.Option.{Option, none, some}
+use Rattle.std.specs.Prelude.{◌≡◌, refl, Bool, true, false, not, List, [], ◌∷◌, map, Option, None, Some}
 use Rattle.std.proofs.lemmas.List.{length-map}
 use Rattle.rules.specs.Words.{any, cons_if, keep}
 use Rattle.rules.specs.Prefix.{Prefix, same_prefix, inside}
@@ -51,26 +50,26 @@ hint-bare (x ∷ xs) = refl
 
 module _ (s : Settings) (now : Moment) (q : Asked) (rs : List Record) where
   solicit-bare : (f : Option Record) (c : Option Prefix) → serve_solicit s now (bare_asked q) rs f c ≡ serve_solicit s now q rs f c
-  solicit-bare (some r) c = refl
-  solicit-bare none (some p) = refl
-  solicit-bare none none = refl
+  solicit-bare (Some r) c = refl
+  solicit-bare None (Some p) = refl
+  solicit-bare None None = refl
 
   request-bare : (f : Option Record) (c : Option Prefix) → serve_request s now (bare_asked q) rs f c ≡ serve_request s now q rs f c
-  request-bare (some r) c = refl
-  request-bare none (some p) = refl
-  request-bare none none = refl
+  request-bare (Some r) c = refl
+  request-bare None (Some p) = refl
+  request-bare None None = refl
 
   renew-bare : (f : Option Record) → serve_renew s now (bare_asked q) rs f ≡ serve_renew s now q rs f
-  renew-bare (some r) = rw (others-bare r.lease.prefix q.listed)
-  renew-bare none = refl
+  renew-bare (Some r) = rw (others-bare r.lease.prefix q.listed)
+  renew-bare None = refl
 
   rebind-bare : (f : Option Record) → serve_rebind s now (bare_asked q) rs f ≡ serve_rebind s now q rs f
-  rebind-bare (some r) = renew-bare (some r)
-  rebind-bare none = rw (gone-bare s q.listed, returned-bare q.listed)
+  rebind-bare (Some r) = renew-bare (Some r)
+  rebind-bare None = rw (gone-bare s q.listed, returned-bare q.listed)
 
   release-bare : (f : Option Record) → serve_release s now (bare_asked q) rs f ≡ serve_release s now q rs f
-  release-bare (some r) = rw (freed-bare r q.listed)
-  release-bare none = refl
+  release-bare (Some r) = rw (freed-bare r q.listed)
+  release-bare None = refl
 
   pub serve-bare : (k : Kind) → serve s now (bare_asked q) rs k ≡ serve s now q rs k
   unfolding serve

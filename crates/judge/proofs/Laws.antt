@@ -2,7 +2,7 @@
 use mathlib.Core.Path.{◌≡◌, refl, sym, ap, ◌∙◌}
 use mathlib.Core.Bool.{Bool, true, false, cond, not, ◌||◌}
 use mathlib.Core.List.{List, ◌++◌}
-use mathlib.Core.Option.{Option, none, some}
+use Rattle.std.specs.Prelude.{Option, None, Some}
 use Prim.Native.Nat.{ℕ, ◌≤◌, ◌<◌, ◌^◌}
 use native.Mathlib.Omega.{arith}
 use borrow.Author.Tests.{not-false, lt-ltb, le-ltb}
@@ -119,17 +119,17 @@ is_rebind Release = false
 
 module _ (s : Settings) (now : Moment) (q : Asked) (rs : List Record) where
   choosing : (f : Option Record) (c : Option Prefix) → (false ≡ is_silence (serve_solicit s now q rs f c).verdict) × (false ≡ is_silence (serve_request s now q rs f c).verdict)
-  choosing (some r) c = (refl, refl)
-  choosing none (some p) = (refl, refl)
-  choosing none none = (refl, refl)
+  choosing (Some r) c = (refl, refl)
+  choosing None (Some p) = (refl, refl)
+  choosing None None = (refl, refl)
 
   renewed : (f : Option Record) → false ≡ is_silence (serve_renew s now q rs f).verdict
-  renewed (some r) = refl
-  renewed none = refl
+  renewed (Some r) = refl
+  renewed None = refl
 
   released : (f : Option Record) → false ≡ is_silence (serve_release s now q rs f).verdict
-  released none = refl
-  released (some r) = by (is_freed r q.listed)
+  released None = refl
+  released (Some r) = by (is_freed r q.listed)
     where
       by : (f : Bool) → false ≡ is_silence (cond f (leaves (give_up (is_binding q.who) rs) success) (leaves rs no_binding)).verdict
       by true = refl

@@ -1,8 +1,7 @@
 -- A message that passed every test but the last, beside a sound table; and what it asks, as code holds it.
-use Rattle.std.specs.Prelude.{◌≡◌, refl, Bool, true, false, List, map, ℕ}
+use Rattle.std.specs.Prelude.{◌≡◌, refl, Bool, true, false, List, map, ℕ, Option, None, Some}
 use Rattle.std.proofs.Math.Path.{ap}
 use Rattle.std.proofs.Common.{◌∙◌}
-use Rattle.std.proofs.Math.Option.{Option, none, some}
 use Rattle.rules.specs.Prefix.{Prefix}
 use Rattle.rules.specs.Message.{Listed, Ia, read, well_formed}
 use Rattle.rules.specs.Clock.{Moment}
@@ -66,30 +65,30 @@ unfolding serve
 silent-asking s now q rs a Solicit = by (binding q.who rs) (choose s rs (hint_of q.listed))
   where
     by : (f : Option Record) (c : Option Prefix) → is_silence (serve_solicit s now (asking a q) rs f c).verdict ≡ is_silence (serve_solicit s now q rs f c).verdict
-    by (some r) c = refl
-    by none (some p) = refl
-    by none none = refl
+    by (Some r) c = refl
+    by None (Some p) = refl
+    by None None = refl
 silent-asking s now q rs a Request = by (binding q.who rs) (choose s rs (hint_of q.listed))
   where
     by : (f : Option Record) (c : Option Prefix) → is_silence (serve_request s now (asking a q) rs f c).verdict ≡ is_silence (serve_request s now q rs f c).verdict
-    by (some r) c = refl
-    by none (some p) = refl
-    by none none = refl
+    by (Some r) c = refl
+    by None (Some p) = refl
+    by None None = refl
 silent-asking s now q rs a Renew = by (binding q.who rs)
   where
     by : (f : Option Record) → is_silence (serve_renew s now (asking a q) rs f).verdict ≡ is_silence (serve_renew s now q rs f).verdict
-    by (some r) = refl
-    by none = refl
+    by (Some r) = refl
+    by None = refl
 silent-asking s now q rs a Rebind = by (binding q.who rs)
   where
     by : (f : Option Record) → is_silence (serve_rebind s now (asking a q) rs f).verdict ≡ is_silence (serve_rebind s now q rs f).verdict
-    by (some r) = refl
-    by none = refl
+    by (Some r) = refl
+    by None = refl
 silent-asking s now q rs a Release = by (binding q.who rs)
   where
     by : (f : Option Record) → is_silence (serve_release s now (asking a q) rs f).verdict ≡ is_silence (serve_release s now q rs f).verdict
-    by (some r) = refl
-    by none = refl
+    by (Some r) = refl
+    by None = refl
 
 pub silent-is : (s : Settings) (now : Moment) (m : List ℕ) (d : Pd) (rs : List Record) (k : Kind) → ia_of d ≡ bare_ia (asked_ia (read m)) → {c : Duid} → c ≡ client_of (read m)
     → is_silence (serve s now (asked_of c false d) rs k).verdict ≡ is_silence (serve s now (asked_by (read m)) rs k).verdict

@@ -4,11 +4,10 @@
 --   tidied-bytes            the last time set, and the ended records dropped
 --   extended-bytes, bound-bytes, removed-bytes      one record's end set, one put last, one taken out
 --   extended-there, removed-there                   where that one is the record of an identity
-use Rattle.std.specs.Prelude.{◌≡◌, refl, Bool, true, false, not, List, [], ◌∷◌, ◌++◌, map, ℕ, zero, suc, ◌+◌, ◌-◌, ◌*◌, ◌/◌, ◌%◌, ◌≤◌, ◌<◌, ◌^◌, ltb, take, replicate}
+use Rattle.std.specs.Prelude.{◌≡◌, refl, Bool, true, false, not, List, [], ◌∷◌, ◌++◌, map, ℕ, zero, suc, ◌+◌, ◌-◌, ◌*◌, ◌/◌, ◌%◌, ◌≤◌, ◌<◌, ◌^◌, ltb, take, replicate, Some}
 use Rattle.std.proofs.Math.Path.{sym, ap}
 use Rattle.std.proofs.Common.{◌∙◌, append_assoc, append-nil, length-append}
 use Rattle.std.proofs.Math.Bool.{not-not}
-use Rattle.std.proofs.Math.Option.{some}
 use Rattle.std.proofs.Math.Nat.{zero-add, sub-zero}
 use native.Mathlib.Omega.{arith}
 use Rattle.std.proofs.Math.ListN.{length, drop}
@@ -366,7 +365,7 @@ apart i x y p m = by (is_binding i y) refl
         sym (ap not e) ∙ (both (not (overlap (area x) (area y))) (not (same_identity x.owner y.owner)) m).1
     by false q = refl
 
-module _ (i : Identity) (rs : List Record) (k : ℕ) (together : no_two may_stand rs ≡ true) (at : first_place (is_binding i) rs 0 ≡ some k) where
+module _ (i : Identity) (rs : List Record) (k : ℕ) (together : no_two may_stand rs ≡ true) (at : first_place (is_binding i) rs 0 ≡ Some k) where
   theirs : Only (is_binding i) k rs
   theirs = rw sub-zero at (only (is_binding i) may_stand (apart i) rs 0 k together at).1
 
@@ -398,7 +397,7 @@ pub tidied-held : (b c : List ℕ) (now : Moment) → sound_bytes b ≡ true →
     → (sound_bytes c ≡ true) × (table_of c ≡ tidied now (table_of b))
 tidied-held b c now h soon e = represented (tidied now (table_of b)) (tidied-sound (table_of b) (held b h).sound now soon) e
 
-module _ (b : List ℕ) (h : sound_bytes b ≡ true) (i : Identity) (k : ℕ) (at : first_place (is_binding i) (table_of b).records 0 ≡ some k) where
+module _ (b : List ℕ) (h : sound_bytes b ≡ true) (i : Identity) (k : ℕ) (at : first_place (is_binding i) (table_of b).records 0 ≡ Some k) where
   pub removed-there : on_records (without k) (table_of b) ≡ on_records (give_up (is_binding i)) (table_of b)
   removed-there = ap (λ rs. on_records (λ _. rs) (table_of b)) (removed-is i (table_of b).records k (held b h).sound.together at)
 

@@ -1,10 +1,10 @@
 -- Laws of the choice: what it gives is free, aligned, in the pool and of a good length; the walk for one length gives the lowest
 -- free place, and gives none only where none is free; so the choice gives none only where no /60 is free.
-use Rattle.std.specs.Prelude.{◌≡◌, Bool, cond, List, ◌⊎◌, eqb, leb, ltb, length}
+use Rattle.std.specs.Prelude.{◌≡◌, Bool, cond, List, ◌⊎◌, eqb, leb, ltb, length, Option, None, Some}
 use Rattle.std.proofs.Math.Path.{refl, ap, subst}
 use Rattle.std.proofs.Common.{sym, ◌∙◌, inl, inr, one-mul, mul-le-mul_right, div-lt_iff_lt-mul, pow_pos}
 use Rattle.std.proofs.Math.Bool.{true, false, not}
-use Rattle.std.proofs.Math.Option.{Option, none, some, none-ne-some, some-ne-none}
+use Rattle.std.proofs.lemmas.Option.{none-some}
 use Prim.Native.Nat.{ℕ, zero, suc, ◌+◌, ◌-◌, ◌*◌, ◌/◌, ◌%◌, ◌^◌, ◌≤◌, ◌<◌}
 use Rattle.std.proofs.Math.Nat.{suc-mul, add-mul, zero-mul, div-eq_of_lt-le, div-add-mod', mod-lt}
 use native.Mathlib.Omega.{arith}
@@ -63,7 +63,7 @@ apart x y a zx zy h =
 
 -- ---------------------------------------------------------------- free
 
-pub free-none : (rs : List Record) (p : Prefix) → first (hits p) rs ≡ none → free rs p ≡ true
+pub free-none : (rs : List Record) (p : Prefix) → first (hits p) rs ≡ None → free rs p ≡ true
 unfolding free
 free-none rs p e = first-none (hits p) rs e
 
@@ -84,38 +84,38 @@ pub record Place (s : Settings) (rs : List Record) (a x : ℕ) : Type 0 where
   pub is_free : free rs (prefix x a) ≡ true
 
 module _ (s : Settings) (rs : List Record) (a : ℕ) where
-  pub walk-place : (k x : ℕ) {y : ℕ} → zero_after (prefix x a) ≡ true → walk_from k s rs a x ≡ some y → Place s rs a y
+  pub walk-place : (k x : ℕ) {y : ℕ} → zero_after (prefix x a) ≡ true → walk_from k s rs a x ≡ Some y → Place s rs a y
   unfolding walk_from
-  walk-place zero x {y} z e = absurd (none-ne-some y e)
+  walk-place zero x {y} z e = absurd (none-some y e)
   walk-place (suc k) x {y} z e = by (inside (prefix x a) s.pool) refl (first (hits (prefix x a)) rs) refl e (λ w v d. walk-place k w v d)
     where
       by : (b : Bool) → inside (prefix x a) s.pool ≡ b → (f : Option Record) → first (hits (prefix x a)) rs ≡ f
-          → within (λ w. walk_from k s rs a w) rs a x b ≡ some y
-          → ((w : ℕ) → zero_after (prefix w a) ≡ true → walk_from k s rs a w ≡ some y → Place s rs a y) → Place s rs a y
-      by false i f q e more = absurd (none-ne-some y e)
-      by true i none q e more =
-          let w : some x ≡ some y = rw q at e in
+          → within (λ w. walk_from k s rs a w) rs a x b ≡ Some y
+          → ((w : ℕ) → zero_after (prefix w a) ≡ true → walk_from k s rs a w ≡ Some y → Place s rs a y) → Place s rs a y
+      by false i f q e more = absurd (none-some y e)
+      by true i None q e more =
+          let w : Some x ≡ Some y = rw q at e in
           let v : x ≡ y = cc in
           rw (← v) (record { aligned = z; in-pool = i; is_free = free-none rs (prefix x a) q })
-      by true i (some r) q e more = more (next_place (last_of (area r)) a) (next-zero (last_of (area r)) a) (rw q at e)
+      by true i (Some r) q e more = more (next_place (last_of (area r)) a) (next-zero (last_of (area r)) a) (rw q at e)
 
   -- from a place x on nothing free is passed over: what the walk gives is no higher than a free place y, and it gives something
   -- where y is among the next k places
   module _ (zp : zero_after s.pool ≡ true) (le : s.pool.length ≤ a) (al : Aligned rs) (y : ℕ) (p : Place s rs a y) where
     pub walk-below : (k x : ℕ) → zero_after (prefix x a) ≡ true → s.pool.bits ≤ x → x ≤ y → y < x + k * size a
-        → (z : ℕ) × (walk_from k s rs a x ≡ some z) × (z ≤ y)
+        → (z : ℕ) × (walk_from k s rs a x ≡ Some z) × (z ≤ y)
     unfolding walk_from
     walk-below zero x z lo xy h = absurd (omega (arith, zero-mul (size a)))
     walk-below (suc k) x z lo xy h = by (inside (prefix x a) s.pool) refl (first (hits (prefix x a)) rs) refl (λ w v i j l. walk-below k w v i j l)
       where
         by : (b : Bool) → inside (prefix x a) s.pool ≡ b → (f : Option Record) → first (hits (prefix x a)) rs ≡ f
-            → ((w : ℕ) → zero_after (prefix w a) ≡ true → s.pool.bits ≤ w → w ≤ y → y < w + k * size a → (z : ℕ) × (walk_from k s rs a w ≡ some z) × (z ≤ y))
-            → (z : ℕ) × (within (λ w. walk_from k s rs a w) rs a x b ≡ some z) × (z ≤ y)
+            → ((w : ℕ) → zero_after (prefix w a) ≡ true → s.pool.bits ≤ w → w ≤ y → y < w + k * size a → (z : ℕ) × (walk_from k s rs a w ≡ Some z) × (z ≤ y))
+            → (z : ℕ) × (within (λ w. walk_from k s rs a w) rs a x b ≡ Some z) × (z ≤ y)
         by false i f q more =
             let e = in-pool→ s.pool y a zp le p.in-pool in
             absurd (false-true (sym i ∙ in-pool← s.pool x a zp le lo (omega arith)))
-        by true i none q more = rw q (x, refl, xy)
-        by true i (some r) q more =
+        by true i None q more = rw q (x, refl, xy)
+        by true i (Some r) q more =
             let w = next_place (last_of (area r)) a in
             let zw = next-zero (last_of (area r)) a in
             let hit = first-all (hits (prefix x a)) (λ r. zero_after (area r)) rs q al in
@@ -124,7 +124,7 @@ module _ (s : Settings) (rs : List Record) (a : ℕ) where
             let m : suc k * size a ≡ k * size a + size a = suc-mul k (size a) in
             rw q (more w zw (omega arith) (beyond r q hit (lt-or-ge y w)) (omega arith))
           where
-            beyond : (r : Record) → first (hits (prefix x a)) rs ≡ some r → (overlap (area r) (prefix x a) ≡ true) × (zero_after (area r) ≡ true)
+            beyond : (r : Record) → first (hits (prefix x a)) rs ≡ Some r → (overlap (area r) (prefix x a) ≡ true) × (zero_after (area r) ≡ true)
                 → (y < next_place (last_of (area r)) a) ⊎ (next_place (last_of (area r)) a ≤ y) → next_place (last_of (area r)) a ≤ y
             beyond r q hit (inl l) =
                 let o = past (area r) x a hit.1 z hit.0 y p.aligned xy l in
@@ -144,30 +144,30 @@ module _ (s : Settings) (rs : List Record) (a : ℕ) (zp : zero_after s.pool ≡
       let e : (128 - s.pool.length) - (128 - a) ≡ a - s.pool.length = omega arith in
       size-split s.pool.length a le ∙ ap (λ (k : ℕ). 2 ^ k * size a) e
 
-  pub lowest-place : {x : ℕ} → lowest s rs a ≡ some x → Place s rs a x
+  pub lowest-place : {x : ℕ} → lowest s rs a ≡ Some x → Place s rs a x
   unfolding lowest
   lowest-place e = walk-place s rs a (2 ^ (a - s.pool.length)) s.pool.bits first-place e
 
   -- a free place has the lowest one at or below it
-  pub lowest-below : Aligned rs → (y : ℕ) → Place s rs a y → (z : ℕ) × (lowest s rs a ≡ some z) × (z ≤ y)
+  pub lowest-below : Aligned rs → (y : ℕ) → Place s rs a y → (z : ℕ) × (lowest s rs a ≡ Some z) × (z ≤ y)
   unfolding lowest
   lowest-below al y p =
       let e = in-pool→ s.pool y a zp le p.in-pool in
       let q = places in
       walk-below s rs a zp le al y p (2 ^ (a - s.pool.length)) s.pool.bits first-place (omega arith) e.0 (omega arith)
 
-  pub lowest-none : Aligned rs → lowest s rs a ≡ none → (y : ℕ) → Place s rs a y → ⊥
-  lowest-none al e y p = let w = lowest-below al y p in none-ne-some _ (sym e ∙ w.1)
+  pub lowest-none : Aligned rs → lowest s rs a ≡ None → (y : ℕ) → Place s rs a y → ⊥
+  lowest-none al e y p = let w = lowest-below al y p in none-some _ (sym e ∙ w.1)
 
 -- ---------------------------------------------------------------- the choice
 
 -- nothing is chosen where the table is full
-pub choose-room : (s : Settings) (rs : List Record) (hint : Option Prefix) {p : Prefix} → choose s rs hint ≡ some p → length rs < 256
+pub choose-room : (s : Settings) (rs : List Record) (hint : Option Prefix) {p : Prefix} → choose s rs hint ≡ Some p → length rs < 256
 unfolding choose
 choose-room s rs hint {p} e = by (leb 256 (length rs)) refl e
   where
-    by : (b : Bool) → leb 256 (length rs) ≡ b → unless_full s rs hint b ≡ some p → length rs < 256
-    by true q e = absurd (none-ne-some p e)
+    by : (b : Bool) → leb 256 (length rs) ≡ b → unless_full s rs hint b ≡ Some p → length rs < 256
+    by true q e = absurd (none-some p e)
     by false q e = leb-false 256 (length rs) q
 
 -- what a choice may be
@@ -185,8 +185,8 @@ pub record Lengths (s : Settings) : Type 0 where
 
 pub wanted-least : (s : Settings) → Lengths s → (hint : Option Prefix) → (s.shortest ≤ wanted s hint) × (wanted s hint ≤ 60)
 unfolding wanted
-wanted-least s g none = (g.shortest-standard, g.standard-60)
-wanted-least s g (some p) = by (eqb p.length 0) (ltb p.length s.shortest) refl (ltb 60 p.length) refl
+wanted-least s g None = (g.shortest-standard, g.standard-60)
+wanted-least s g (Some p) = by (eqb p.length 0) (ltb p.length s.shortest) refl (ltb 60 p.length) refl
   where
     by : (a b : Bool) → ltb p.length s.shortest ≡ b → (c : Bool) → ltb 60 p.length ≡ c
         → (s.shortest ≤ cond a s.standard (cond b s.shortest (cond c 60 p.length))) × (cond a s.standard (cond b s.shortest (cond c 60 p.length)) ≤ 60)
@@ -196,30 +196,30 @@ wanted-least s g (some p) = by (eqb p.length 0) (ltb p.length s.shortest) refl (
     by false false h false k = omega (arith, ltb-false p.length s.shortest h, ltb-false 60 p.length k)
 
 module _ (s : Settings) (rs : List Record) (g : Lengths s) where
-  pub shortest-chosen : (k a : ℕ) {p : Prefix} → s.shortest ≤ a → a + k ≤ 61 → shortest_from k s rs a ≡ some p → Chosen s rs p
+  pub shortest-chosen : (k a : ℕ) {p : Prefix} → s.shortest ≤ a → a + k ≤ 61 → shortest_from k s rs a ≡ Some p → Chosen s rs p
   unfolding shortest_from
-  shortest-chosen zero a {p} h l e = absurd (none-ne-some p e)
+  shortest-chosen zero a {p} h l e = absurd (none-some p e)
   shortest-chosen (suc k) a {p} h l e = by (lowest s rs a) refl e (λ d. shortest-chosen k (a + 1) (omega arith) (omega arith) d)
     where
-      by : (f : Option ℕ) → lowest s rs a ≡ f → or_longer (λ b. shortest_from k s rs b) a f ≡ some p
-          → (shortest_from k s rs (a + 1) ≡ some p → Chosen s rs p) → Chosen s rs p
-      by none q e more = more e
-      by (some x) q e more =
+      by : (f : Option ℕ) → lowest s rs a ≡ f → or_longer (λ b. shortest_from k s rs b) a f ≡ Some p
+          → (shortest_from k s rs (a + 1) ≡ Some p → Chosen s rs p) → Chosen s rs p
+      by None q e more = more e
+      by (Some x) q e more =
           let w : prefix x a ≡ p = cc in
           subst (Chosen s rs) w (record { least = h; most = omega arith; place = lowest-place s rs a g.aligned (omega (arith, g.pool-shortest)) (omega arith) q })
 
-  pub shortest-none : (k a b : ℕ) → a ≤ b → b < a + k → shortest_from k s rs a ≡ none → lowest s rs b ≡ none
+  pub shortest-none : (k a b : ℕ) → a ≤ b → b < a + k → shortest_from k s rs a ≡ None → lowest s rs b ≡ None
   unfolding shortest_from
   shortest-none zero a b h l e = absurd (omega arith)
   shortest-none (suc k) a b h l e = by (lowest s rs a) refl e (lt-or-ge a b) (λ m d. shortest-none k (a + 1) b m (omega arith) d)
     where
-      by : (f : Option ℕ) → lowest s rs a ≡ f → or_longer (λ c. shortest_from k s rs c) a f ≡ none → (a < b) ⊎ (b ≤ a)
-          → (a + 1 ≤ b → shortest_from k s rs (a + 1) ≡ none → lowest s rs b ≡ none) → lowest s rs b ≡ none
-      by none q e (inl m) more = more (omega arith) e
-      by none q e (inr m) more = let w : b ≡ a = omega arith in rw w q
-      by (some x) q e m more = absurd (some-ne-none _ e)
+      by : (f : Option ℕ) → lowest s rs a ≡ f → or_longer (λ c. shortest_from k s rs c) a f ≡ None → (a < b) ⊎ (b ≤ a)
+          → (a + 1 ≤ b → shortest_from k s rs (a + 1) ≡ None → lowest s rs b ≡ None) → lowest s rs b ≡ None
+      by None q e (inl m) more = more (omega arith) e
+      by None q e (inr m) more = let w : b ≡ a = omega arith in rw w q
+      by (Some x) q e m more = absurd (none-some _ (sym e))
 
-  place-chosen : (p : Prefix) → is_place s rs (some p) ≡ true → Chosen s rs p
+  place-chosen : (p : Prefix) → is_place s rs (Some p) ≡ true → Chosen s rs p
   unfolding is_place
   place-chosen p e =
       let a = both _ (free rs p) e in
@@ -229,19 +229,19 @@ module _ (s : Settings) (rs : List Record) (g : Lengths s) where
       let f = both (not (eqb p.bits 0)) (leb s.shortest p.length) d.0 in
       record { least = leb-true _ _ f.1; most = leb-true _ _ d.1; place = record { aligned = c.1; in-pool = b.1; is_free = a.1 } }
 
-  pub choose-chosen : (hint : Option Prefix) {p : Prefix} → choose s rs hint ≡ some p → Chosen s rs p
+  pub choose-chosen : (hint : Option Prefix) {p : Prefix} → choose s rs hint ≡ Some p → Chosen s rs p
   unfolding choose
   choose-chosen hint {p} e = full (leb 256 (length rs)) e
     where
-      walked : (b : Bool) (h : Option Prefix) → is_place s rs h ≡ b → otherwise s rs h b ≡ some p → Chosen s rs p
-      walked true none q e = absurd (none-ne-some p e)
-      walked true (some x) q e = let w : x ≡ p = cc in rw (← w) (place-chosen x q)
+      walked : (b : Bool) (h : Option Prefix) → is_place s rs h ≡ b → otherwise s rs h b ≡ Some p → Chosen s rs p
+      walked true None q e = absurd (none-some p e)
+      walked true (Some x) q e = let w : x ≡ p = cc in rw (← w) (place-chosen x q)
       walked false h q e =
           let w = wanted-least s g h in
           shortest-chosen (61 - wanted s h) (wanted s h) w.0 (omega arith) e
 
-      full : (b : Bool) → unless_full s rs hint b ≡ some p → Chosen s rs p
-      full true e = absurd (none-ne-some p e)
+      full : (b : Bool) → unless_full s rs hint b ≡ Some p → Chosen s rs p
+      full true e = absurd (none-some p e)
       full false e = walked (is_place s rs hint) hint refl e
 
   -- a place of a shorter length has one of length 60 at its beginning
@@ -261,27 +261,27 @@ module _ (s : Settings) (rs : List Record) (g : Lengths s) where
           by false q = refl
 
   -- nothing is chosen exactly where no /60 is free or the table is full
-  pub choose-none : (hint : Option Prefix) → Aligned rs → choose s rs hint ≡ none → ((y : ℕ) → Place s rs 60 y → ⊥) ⊎ (256 ≤ length rs)
+  pub choose-none : (hint : Option Prefix) → Aligned rs → choose s rs hint ≡ None → ((y : ℕ) → Place s rs 60 y → ⊥) ⊎ (256 ≤ length rs)
   unfolding choose is_place
   choose-none hint al e = full (leb 256 (length rs)) refl e
     where
-      walked : (b : Bool) (h : Option Prefix) → is_place s rs h ≡ b → otherwise s rs h b ≡ none → (y : ℕ) → Place s rs 60 y → ⊥
-      walked true none q e y p = false-true q
-      walked true (some x) q e y p = some-ne-none x e
+      walked : (b : Bool) (h : Option Prefix) → is_place s rs h ≡ b → otherwise s rs h b ≡ None → (y : ℕ) → Place s rs 60 y → ⊥
+      walked true None q e y p = false-true q
+      walked true (Some x) q e y p = none-some x (sym e)
       walked false h q e y p =
           let w = wanted-least s g h in
           lowest-none s rs 60 g.aligned (omega (arith, g.pool-shortest, g.shortest-standard, g.standard-60)) (omega arith) al
           (shortest-none (61 - wanted s h) (wanted s h) 60 w.1 (omega arith) e) y p
 
-      full : (b : Bool) → leb 256 (length rs) ≡ b → unless_full s rs hint b ≡ none → ((y : ℕ) → Place s rs 60 y → ⊥) ⊎ (256 ≤ length rs)
+      full : (b : Bool) → leb 256 (length rs) ≡ b → unless_full s rs hint b ≡ None → ((y : ℕ) → Place s rs 60 y → ⊥) ⊎ (256 ≤ length rs)
       full true q e = inr (leb-true _ _ q)
       full false q e = inl (walked (is_place s rs hint) hint refl e)
 
-  pub none-chosen : (hint : Option Prefix) → ((y : ℕ) → Place s rs 60 y → ⊥) ⊎ (256 ≤ length rs) → choose s rs hint ≡ none
+  pub none-chosen : (hint : Option Prefix) → ((y : ℕ) → Place s rs 60 y → ⊥) ⊎ (256 ≤ length rs) → choose s rs hint ≡ None
   unfolding choose
   none-chosen hint (inl h) = by (choose s rs hint) refl
     where
-      by : (c : Option Prefix) → choose s rs hint ≡ c → choose s rs hint ≡ none
-      by none q = q
-      by (some p) q = absurd (h p.bits (chosen-60 p (choose-chosen hint q)))
+      by : (c : Option Prefix) → choose s rs hint ≡ c → choose s rs hint ≡ None
+      by None q = q
+      by (Some p) q = absurd (h p.bits (chosen-60 p (choose-chosen hint q)))
   none-chosen hint (inr h) = rw (le-leb 256 (length rs) h)

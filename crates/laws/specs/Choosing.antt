@@ -4,12 +4,11 @@
 --   free-...      free by the first record that overlaps
 --   hint-...      a hint by the two halves of its bits
 --   choose-...    the choice, test by test
-use Rattle.std.specs.Prelude.{◌≡◌, Bool, ◌&&◌, List, eqb, leb, length}
+use Rattle.std.specs.Prelude.{◌≡◌, Bool, ◌&&◌, List, eqb, leb, length, Option, None, Some}
 use Rattle.std.proofs.Math.Path.{refl, ap}
 use Rattle.std.proofs.Common.{sym, ◌∙◌, eqb-true, le-leb}
 use Rattle.std.proofs.Math.Bool.{true, false, not}
 use Rattle.std.proofs.Math.Logic.{⊎_elim}
-use Rattle.std.proofs.Math.Option.{Option, none, some}
 use Prim.Native.Nat.{ℕ, zero, suc, ◌+◌, ◌-◌, ◌*◌, ◌^◌, ◌≤◌, ◌<◌}
 use native.Mathlib.Omega.{arith}
 use Rattle.std.proofs.Math.Pow.{low}
@@ -47,13 +46,13 @@ module _ (s s' : Settings) (rs : List Record) (p : s.pool ≡ s'.pool) where
   module _ (q : s.shortest ≡ s'.shortest) where
     pub same_place : (h : Option Prefix) → is_place s rs h ≡ is_place s' rs h
     unfolding is_place
-    same_place none = refl
-    same_place (some x) = rw (p, q)
+    same_place None = refl
+    same_place (Some x) = rw (p, q)
 
     same-wanted : s.standard ≡ s'.standard → (h : Option Prefix) → wanted s h ≡ wanted s' h
     unfolding wanted
-    same-wanted d none = d
-    same-wanted d (some x) = rw (q, d)
+    same-wanted d None = d
+    same-wanted d (Some x) = rw (q, d)
 
     pub same-choose : s.standard ≡ s'.standard → (h : Option Prefix) → choose s rs h ≡ choose s' rs h
     unfolding choose
@@ -74,18 +73,18 @@ module _ (s : Settings) (rs : List Record) (a : ℕ) where
   unfolding shortest_from
   longer-turn h e = rw (left 61 a (omega arith), e)
 
-  pub longer-end : 60 < a → shortest_from (61 - a) s rs a ≡ none
+  pub longer-end : 60 < a → shortest_from (61 - a) s rs a ≡ None
   unfolding shortest_from
   longer-end h = let z : 61 - a ≡ 0 = omega arith in rw z
 
 -- ---------------------------------------------------------------- free
 
 module _ (g : ℕ → Record) (n : ℕ) (p : Prefix) where
-  pub free-nothing : first_place (hits p) (from g 0 n) 0 ≡ none → free (from g 0 n) p ≡ true
+  pub free-nothing : first_place (hits p) (from g 0 n) 0 ≡ None → free (from g 0 n) p ≡ true
   unfolding free
   free-nothing e = place_none g (hits p) n 0 e
 
-  pub free-at : {i : ℕ} → first_place (hits p) (from g 0 n) 0 ≡ some i → free (from g 0 n) p ≡ false
+  pub free-at : {i : ℕ} → first_place (hits p) (from g 0 n) 0 ≡ Some i → free (from g 0 n) p ≡ false
   unfolding free
   free-at {i} e = by (all (λ r. not (hits p r)) (from g 0 n)) refl
     where
@@ -104,7 +103,7 @@ and-false false = refl
 
 module _ (s : Settings) (rs : List Record) (u l n : ℕ) where
   -- a 1 in the lower half is a 1 after at most 60 bits
-  pub hint-lower : l < 2 ^ 64 → (l ≡ 0 → ⊥) → is_place s rs (some (prefix (u * 2 ^ 64 + l) n)) ≡ false
+  pub hint-lower : l < 2 ^ 64 → (l ≡ 0 → ⊥) → is_place s rs (Some (prefix (u * 2 ^ 64 + l) n)) ≡ false
   unfolding is_place
   hint-lower f z = ⊎_elim long short (lt-or-ge 60 n)
     where
@@ -121,13 +120,13 @@ module _ (s : Settings) (rs : List Record) (u l n : ℕ) where
       short : n ≤ 60 → not (eqb p.bits 0) && leb s.shortest n && leb n 60 && zero_after p && inside p s.pool && free rs p ≡ false
       short h = rw (not-zero h (zero_after p) refl, and-false (not (eqb p.bits 0) && leb s.shortest n && leb n 60))
 
-  pub hint-upper : l ≡ 0 → is_place s rs (some (prefix (u * 2 ^ 64 + l) n))
+  pub hint-upper : l ≡ 0 → is_place s rs (Some (prefix (u * 2 ^ 64 + l) n))
       ≡ not (eqb u 0) && leb s.shortest n && leb n 60 && zero_after (prefix (u * 2 ^ 64) n) && inside (prefix (u * 2 ^ 64) n) s.pool && free rs (prefix (u * 2 ^ 64) n)
   unfolding is_place
   hint-upper z = let e : u * 2 ^ 64 + l ≡ u * 2 ^ 64 = omega arith in rw (e, zero-times u)
 
   -- so a hint that is a place has a lower half of zero
-  pub hint-place : l < 2 ^ 64 → is_place s rs (some (prefix (u * 2 ^ 64 + l) n)) ≡ true → prefix (u * 2 ^ 64 + l) n ≡ prefix (u * 2 ^ 64) n
+  pub hint-place : l < 2 ^ 64 → is_place s rs (Some (prefix (u * 2 ^ 64 + l) n)) ≡ true → prefix (u * 2 ^ 64 + l) n ≡ prefix (u * 2 ^ 64) n
   hint-place f e = by (eqb l 0) refl
     where
       by : (b : Bool) → eqb l 0 ≡ b → prefix (u * 2 ^ 64 + l) n ≡ prefix (u * 2 ^ 64) n
@@ -137,20 +136,20 @@ module _ (s : Settings) (rs : List Record) (u l n : ℕ) where
 -- ---------------------------------------------------------------- the choice, test by test
 
 module _ (s : Settings) (rs : List Record) where
-  pub choose-full : (h : Option Prefix) → 256 ≤ length rs → choose s rs h ≡ none
+  pub choose-full : (h : Option Prefix) → 256 ≤ length rs → choose s rs h ≡ None
   unfolding choose
   choose-full h l = rw (le-leb 256 (length rs) l)
 
   module _ (room : length rs < 256) where
-    pub choose-unasked : choose s rs none ≡ shortest_from (61 - s.standard) s rs s.standard
+    pub choose-unasked : choose s rs None ≡ shortest_from (61 - s.standard) s rs s.standard
     unfolding choose is_place wanted
     choose-unasked = rw (lt-leb 256 (length rs) room)
 
-    pub choose-asked : (p : Prefix) → is_place s rs (some p) ≡ true → choose s rs (some p) ≡ some p
+    pub choose-asked : (p : Prefix) → is_place s rs (Some p) ≡ true → choose s rs (Some p) ≡ Some p
     unfolding choose
     choose-asked p e = rw (lt-leb 256 (length rs) room, e)
 
-    pub choose-other : (p : Prefix) → is_place s rs (some p) ≡ false
-        → choose s rs (some p) ≡ shortest_from (61 - wanted_for s p.length) s rs (wanted_for s p.length)
+    pub choose-other : (p : Prefix) → is_place s rs (Some p) ≡ false
+        → choose s rs (Some p) ≡ shortest_from (61 - wanted_for s p.length) s rs (wanted_for s p.length)
     unfolding choose wanted
     choose-other p e = rw (lt-leb 256 (length rs) room, e)

@@ -3,8 +3,7 @@
 --   extended-, removed-keeps      one record's end set, one taken out
 --   bound-keeps                   a new one put last
 --   kept-bytes                    so the bytes that a change leaves are sound, and are read as the changed table
-use Rattle.std.specs.Prelude.{◌≡◌, true, List, ℕ, ◌<◌, ◌^◌, length}
-use Rattle.std.proofs.Math.Option.{none}
+use Rattle.std.specs.Prelude.{◌≡◌, true, List, ℕ, ◌<◌, ◌^◌, length, None}
 use Rattle.std.proofs.Common.{arith}
 use Rattle.rules.specs.Clock.{Moment, good_end}
 use Rattle.rules.specs.Prefix.{Lease}
@@ -52,7 +51,7 @@ module _ (t : Table) (h : sound t ≡ true) where
 
   -- one that is good beside the settings, whose identity isn't bound yet and whose prefix is free
   pub bound-keeps : (i : Identity) (l : Lease) (e : Moment) → length t.records < 256 → GoodRecord t.settings (record { owner = i; lease = l; end = e })
-      → free t.records l.prefix ≡ true → binding i t.records ≡ none → sound (on_records (bind i l e) t) ≡ true
+      → free t.records l.prefix ≡ true → binding i t.records ≡ None → sound (on_records (bind i l e) t) ≡ true
   bound-keeps i l e room g f b = still _ (last-fine t.settings t.records (record { owner = i; lease = l; end = e }) fine room (record-made t.settings _ g) f b)
 
 pub kept-bytes : (b c : List ℕ) (t : Table) → sound_bytes b ≡ true → (sound (table_of b) ≡ true → sound t ≡ true) → c ≡ table_bytes t

@@ -2,9 +2,9 @@
 --   turn, end         of each shape: what is still to be done is one more and the rest, or nothing
 --   -at, -made        what holds of a list holds at each place, and back
 --   -keep, -last      what a filter leaves and one more at the end keep
-use Rattle.std.specs.Prelude.{◌≡◌, refl, Bool, true, false, cond, not, ◌&&◌, List, [], ◌∷◌, ◌++◌, map, ℕ, zero, suc, ◌+◌, ◌-◌, ◌≤◌, ◌<◌, eqb, length, get_or, drop}
-use Rattle.std.proofs.Common.{ap, ◌∙◌, eq-eqb, ne_eqb, eqb-true}
-use Rattle.std.proofs.Math.Option.{Option, none, some, none-ne-some, some-ne-none}
+use Rattle.std.specs.Prelude.{◌≡◌, refl, Bool, true, false, cond, not, ◌&&◌, List, [], ◌∷◌, ◌++◌, map, ℕ, zero, suc, ◌+◌, ◌-◌, ◌≤◌, ◌<◌, eqb, length, get_or, drop, Option, None, Some}
+use Rattle.std.proofs.Common.{sym, ap, ◌∙◌, eq-eqb, ne_eqb, eqb-true}
+use Rattle.std.proofs.lemmas.Option.{none-some}
 use native.Mathlib.Omega.{arith}
 use Rattle.std.proofs.Math.ListN.{drop_of_length-le}
 use Rattle.std.proofs.lemmas.Bool.{eqb-false}
@@ -15,8 +15,8 @@ use Rattle.laws.specs.Parts.{left, left-part, left-list}
 -- the place of the first that passes, counted from i
 module _ {A : Type 0} where
   abbrev pub first_place : (A → Bool) → List A → ℕ → Option ℕ
-  first_place f [] i = none
-  first_place f (x ∷ xs) i = cond (f x) (some i) (first_place f xs (i + 1))
+  first_place f [] i = None
+  first_place f (x ∷ xs) i = cond (f x) (Some i) (first_place f xs (i + 1))
 
 -- ---------------------------------------------------------------- one turn, and the end
 
@@ -44,10 +44,10 @@ module _ {A : Type 0} (g : ℕ → A) (i n : ℕ) where
 
   -- the least below n
   pub place-turn : (f : A → Bool) {b : Bool} → i < n → f (g i) ≡ b
-      → first_place f (from g i (n - i)) i ≡ cond b (some i) (first_place f (from g (i + 1) (n - (i + 1))) (i + 1))
+      → first_place f (from g i (n - i)) i ≡ cond b (Some i) (first_place f (from g (i + 1) (n - (i + 1))) (i + 1))
   place-turn f h e = rw (from-turn h, e)
 
-  pub place_end : (f : A → Bool) → n ≤ i → first_place f (from g i (n - i)) i ≡ none
+  pub place_end : (f : A → Bool) → n ≤ i → first_place f (from g i (n - i)) i ≡ None
   place_end f h = rw (from_end h)
 
   -- those below n that pass
@@ -95,36 +95,36 @@ module _ {A : Type 0} (g : ℕ → A) where
       (two_made r k (i + 1) (λ a b x y z. h a b (omega arith) y (omega arith)))
 
   -- what is found passes the test, and all before it fail
-  pub place-passes : (f : A → Bool) (k j i : ℕ) → first_place f (from g j k) j ≡ some i → (j ≤ i) × (i < j + k) × (f (g i) ≡ true)
+  pub place-passes : (f : A → Bool) (k j i : ℕ) → first_place f (from g j k) j ≡ Some i → (j ≤ i) × (i < j + k) × (f (g i) ≡ true)
   place-passes f zero j i e = let z : ◌≡◌ {A = ℕ} 0 1 = cc in absurd (omega arith)
   place-passes f (suc k) j i e = by (f (g j)) refl (place-passes f k (j + 1) i)
     where
-      by : (b : Bool) → f (g j) ≡ b → (first_place f (from g (j + 1) k) (j + 1) ≡ some i → (j + 1 ≤ i) × (i < j + 1 + k) × (f (g i) ≡ true))
+      by : (b : Bool) → f (g j) ≡ b → (first_place f (from g (j + 1) k) (j + 1) ≡ Some i → (j + 1 ≤ i) × (i < j + 1 + k) × (f (g i) ≡ true))
           → (j ≤ i) × (i < j + suc k) × (f (g i) ≡ true)
-      by true q r = let h : some j ≡ some i = (rw q at e) in let m : j ≡ i = cc in (omega arith, omega arith, rw (← m) q)
+      by true q r = let h : Some j ≡ Some i = (rw q at e) in let m : j ≡ i = cc in (omega arith, omega arith, rw (← m) q)
       by false q r = let s = r (rw q at e) in (omega arith, omega arith, s.2)
 
   -- nothing is found exactly where all fail
-  pub place_none : (f : A → Bool) (k j : ℕ) → first_place f (from g j k) j ≡ none → all (λ x. not (f x)) (from g j k) ≡ true
+  pub place_none : (f : A → Bool) (k j : ℕ) → first_place f (from g j k) j ≡ None → all (λ x. not (f x)) (from g j k) ≡ true
   place_none f zero j e = refl
   place_none f (suc k) j e = by (f (g j)) refl (place_none f k (j + 1))
     where
-      by : (b : Bool) → f (g j) ≡ b → (first_place f (from g (j + 1) k) (j + 1) ≡ none → all (λ x. not (f x)) (from g (j + 1) k) ≡ true)
+      by : (b : Bool) → f (g j) ≡ b → (first_place f (from g (j + 1) k) (j + 1) ≡ None → all (λ x. not (f x)) (from g (j + 1) k) ≡ true)
           → not (f (g j)) && all (λ x. not (f x)) (from g (j + 1) k) ≡ true
-      by true q r = let h : some j ≡ none = (rw q at e) in let z : ◌≡◌ {A = ℕ} 0 1 = cc in absurd (omega arith)
+      by true q r = let h : Some j ≡ None = (rw q at e) in let z : ◌≡◌ {A = ℕ} 0 1 = cc in absurd (omega arith)
       by false q r = rw q (r (rw q at e))
 
   -- the first that passes is the one at the first place
   abbrev pub at : Option ℕ → Option A
-  at none = none
-  at (some i) = some (g i)
+  at None = None
+  at (Some i) = Some (g i)
 
   pub first-place : (f : A → Bool) (k j : ℕ) → first f (from g j k) ≡ at (first_place f (from g j k) j)
   first-place f zero j = refl
   first-place f (suc k) j = by (f (g j)) (first-place f k (j + 1))
     where
       by : (b : Bool) → first f (from g (j + 1) k) ≡ at (first_place f (from g (j + 1) k) (j + 1))
-          → cond b (some (g j)) (first f (from g (j + 1) k)) ≡ at (cond b (some j) (first_place f (from g (j + 1) k) (j + 1)))
+          → cond b (Some (g j)) (first f (from g (j + 1) k)) ≡ at (cond b (Some j) (first_place f (from g (j + 1) k) (j + 1)))
       by true e = refl
       by false e = e
 
@@ -173,20 +173,20 @@ module _ {A : Type 0} where
 -- ---------------------------------------------------------------- the first, and all
 
 module _ {A : Type 0} where
-  pub first-none : (f : A → Bool) (l : List A) → first f l ≡ none → all (λ x. not (f x)) l ≡ true
+  pub first-none : (f : A → Bool) (l : List A) → first f l ≡ None → all (λ x. not (f x)) l ≡ true
   first-none f [] e = refl
   first-none f (x ∷ l) e = by (f x) refl e (first-none f l)
     where
-      by : (b : Bool) → f x ≡ b → cond b (some x) (first f l) ≡ none → (first f l ≡ none → all (λ y. not (f y)) l ≡ true) → not (f x) && all (λ y. not (f y)) l ≡ true
-      by true q e r = absurd (some-ne-none x e)
+      by : (b : Bool) → f x ≡ b → cond b (Some x) (first f l) ≡ None → (first f l ≡ None → all (λ y. not (f y)) l ≡ true) → not (f x) && all (λ y. not (f y)) l ≡ true
+      by true q e r = absurd (none-some x (sym e))
       by false q e r = rw q (r e)
 
   -- what holds of all and of the first that passes
-  pub first-all : (f g : A → Bool) (l : List A) {x : A} → first f l ≡ some x → all g l ≡ true → (f x ≡ true) × (g x ≡ true)
-  first-all f g [] {x} e h = absurd (none-ne-some x e)
+  pub first-all : (f g : A → Bool) (l : List A) {x : A} → first f l ≡ Some x → all g l ≡ true → (f x ≡ true) × (g x ≡ true)
+  first-all f g [] {x} e h = absurd (none-some x e)
   first-all f g (y ∷ l) {x} e h = let p = both (g y) (all g l) h in by (f y) refl e (λ q. first-all f g l q p.1) p.0
     where
-      by : (b : Bool) → f y ≡ b → cond b (some y) (first f l) ≡ some x → (first f l ≡ some x → (f x ≡ true) × (g x ≡ true)) → g y ≡ true → (f x ≡ true) × (g x ≡ true)
+      by : (b : Bool) → f y ≡ b → cond b (Some y) (first f l) ≡ Some x → (first f l ≡ Some x → (f x ≡ true) × (g x ≡ true)) → g y ≡ true → (f x ≡ true) × (g x ≡ true)
       by true q e r k = let w : y ≡ x = cc in (rw (← w) q, rw (← w) k)
       by false q e r k = r e
 

@@ -3,9 +3,9 @@
 --   all-.., two-..       what holds of all, and of every two, then still holds
 --   Only                 one element passes, at that place; what a filter and a map then do
 --   only                 the first place, where no two may pass
-use Rattle.std.specs.Prelude.{◌≡◌, refl, Bool, true, false, cond, not, List, [], ◌∷◌, ◌++◌, map, ℕ, zero, suc, ◌+◌, ◌-◌, ◌≤◌, ◌<◌, length}
+use Rattle.std.specs.Prelude.{◌≡◌, refl, Bool, true, false, cond, not, List, [], ◌∷◌, ◌++◌, map, ℕ, zero, suc, ◌+◌, ◌-◌, ◌≤◌, ◌<◌, length, Some}
 use Rattle.std.proofs.Common.{ap, subst, arith}
-use Rattle.std.proofs.Math.Option.{some, none-ne-some}
+use Rattle.std.proofs.lemmas.Option.{none-some}
 use Rattle.std.proofs.lemmas.Bool.{not-true}
 use Rattle.rules.specs.Words.{all, no_two, keep, from}
 use Rattle.laws.specs.Tests.{both}
@@ -113,12 +113,12 @@ module _ {A : Type 0} (f : A → Bool) where
 
   -- the first place, where no two may pass
   pub only : (r : A → A → Bool) → ((x y : A) → f x ≡ true → r x y ≡ true → not (f y) ≡ true) → (l : List A) (i j : ℕ)
-      → no_two r l ≡ true → first_place f l i ≡ some j → (i ≤ j) × Only (j - i) l
-  only r apart [] i j e h = absurd (none-ne-some j h)
+      → no_two r l ≡ true → first_place f l i ≡ Some j → (i ≤ j) × Only (j - i) l
+  only r apart [] i j e h = absurd (none-some j h)
   only r apart (x ∷ l) i j e h = let p = both (all (r x) l) (no_two r l) e in by (f x) refl h p.0 (only r apart l (i + 1) j p.1)
     where
-      by : (b : Bool) → f x ≡ b → cond b (some i) (first_place f l (i + 1)) ≡ some j → all (r x) l ≡ true
-          → (first_place f l (i + 1) ≡ some j → (i + 1 ≤ j) × Only (j - (i + 1)) l) → (i ≤ j) × Only (j - i) (x ∷ l)
+      by : (b : Bool) → f x ≡ b → cond b (Some i) (first_place f l (i + 1)) ≡ Some j → all (r x) l ≡ true
+          → (first_place f l (i + 1) ≡ Some j → (i + 1 ≤ j) × Only (j - (i + 1)) l) → (i ≤ j) × Only (j - i) (x ∷ l)
       by true q s a t =
           let m : i ≡ j = cc in
           (omega arith, subst (λ k. Only k (x ∷ l)) (omega arith) (here q (all-sub (r x) (λ y. not (f y)) (λ y. apart x y q) l a)))

@@ -3,10 +3,9 @@
 --   Walking           what is still to be walked from place k on gives what the whole walk gives
 --   walk-...          its start; a place that is free; one that is taken, with the next one past it in the pool or not
 --   half-...          the numbers of places by the upper half of the bits
-use Rattle.std.specs.Prelude.{◌≡◌, refl, Bool, true, false, List}
+use Rattle.std.specs.Prelude.{◌≡◌, refl, Bool, true, false, List, Option, None, Some}
 use Rattle.std.proofs.Common.{sym, ◌∙◌, subst, one-mul, mul_assoc, div-lt_iff_lt-mul, le-div_iff_mul-le, pow-add, shr_lt, shr-shr, shl_exact, eq-eqb, eqb-true}
 use Rattle.std.proofs.Math.Path.{ap}
-use Rattle.std.proofs.Math.Option.{Option, none, some}
 use Prim.Native.Nat.{ℕ, zero, suc, ◌+◌, ◌-◌, ◌*◌, ◌/◌, ◌%◌, ◌^◌, ◌≤◌, ◌<◌}
 use Rattle.std.proofs.Math.Nat.{add-mul, mul-le-mul_right, mul-mod_left}
 use native.Mathlib.Omega.{arith}
@@ -72,10 +71,10 @@ module _ (s : Settings) (rs : List Record) (a : ℕ) (zp : zero_after s.pool ≡
         by zero h q = absurd (omega (arith, w.high))
         by (suc m) h q = (m, h, rw (in-pool, e) at q)
 
-    pub walk-free : first (hits (prefix (k * size a) a)) rs ≡ none → lowest s rs a ≡ some (k * size a)
+    pub walk-free : first (hits (prefix (k * size a) a)) rs ≡ None → lowest s rs a ≡ Some (k * size a)
     walk-free e = sym (try e).2
 
-    module _ (al : Aligned rs) (r : Record) (e : first (hits (prefix (k * size a) a)) rs ≡ some r) where
+    module _ (al : Aligned rs) (r : Record) (e : first (hits (prefix (k * size a) a)) rs ≡ Some r) where
       pub walk_up : k < last_place (area r) a + 1
       walk_up =
           let hit = first-all (hits (prefix (k * size a) a)) (λ r. zero_after (area r)) rs e al in
@@ -93,7 +92,7 @@ module _ (s : Settings) (rs : List Record) (a : ℕ) (zp : zero_after s.pool ≡
           let m : k * size a ≤ (last_place (area r) a + 1) * size a = mul-le-mul_right (size a) (omega arith) in
           record { fuel = t.0; enough = omega (arith, t.1); rest = t.2; low = omega (arith, w.low); high = h }
 
-      pub walk-full : last_place s.pool a < last_place (area r) a + 1 → lowest s rs a ≡ none
+      pub walk-full : last_place s.pool a < last_place (area r) a + 1 → lowest s rs a ≡ None
       unfolding next_place walk_from
       walk-full h = by (try e).0 (try e).2
         where
@@ -108,7 +107,7 @@ module _ (s : Settings) (rs : List Record) (a : ℕ) (zp : zero_after s.pool ≡
               absurd (omega arith)
           outside false q = refl
 
-          by : (m : ℕ) → walk_from m s rs a (n * size a) ≡ lowest s rs a → lowest s rs a ≡ none
+          by : (m : ℕ) → walk_from m s rs a (n * size a) ≡ lowest s rs a → lowest s rs a ≡ None
           by zero q = sym q
           by (suc m) q = sym (rw (outside (inside (prefix (n * size a) a) s.pool) refl) at q)
 

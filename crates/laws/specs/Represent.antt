@@ -1,9 +1,8 @@
 -- A sound table is read back from its representation, whole; and its representation is sound.
-use Rattle.std.specs.Prelude.{◌≡◌, Bool, true, false, List, [], ◌∷◌, ◌++◌, map, ℕ, ◌-◌, ◌*◌, ◌/◌, ◌%◌, ◌≤◌, ◌<◌, ◌^◌, eqb, leb, ltb, ◌⊎◌}
+use Rattle.std.specs.Prelude.{◌≡◌, Bool, true, false, List, [], ◌∷◌, ◌++◌, map, ℕ, ◌-◌, ◌*◌, ◌/◌, ◌%◌, ◌≤◌, ◌<◌, ◌^◌, eqb, leb, ltb, ◌⊎◌, Option, None, Some}
 use Rattle.std.proofs.Math.Path.{refl, ap}
 use Rattle.std.proofs.Common.{sym, ◌∙◌, append_assoc, arith, inl, inr}
 use Rattle.std.proofs.Math.Bool.{not}
-use Rattle.std.proofs.Math.Option.{Option, none, some}
 use Rattle.std.proofs.Math.Pow.{split, shr_lt}
 use Rattle.std.proofs.Math.ListN.{length, replicate, length-append}
 use Rattle.std.proofs.lemmas.List.{length-map, length-replicate}
@@ -37,8 +36,8 @@ end_fits e g = by (either (ltb e (2 ^ 49)) (eqb e never) g)
 
 -- a good excluded prefix is told by its flag
 except-told : (s : Settings) (p : Prefix) (o : Option Prefix) → good_except s p o ≡ true → except_for (not (eqb (flag (is_some o)) 0)) p ≡ o
-except-told s p none g = refl
-except-told s p (some e) g = ap some (sym (same-prefix e (last64 p) (both s.exclusion (same_prefix e (last64 p)) g).1))
+except-told s p None g = refl
+except-told s p (Some e) g = ap Some (sym (same-prefix e (last64 p) (both s.exclusion (same_prefix e (last64 p)) g).1))
 
 -- a delegation's bits are those of its upper half
 upper-half : (p : Prefix) → p.length ≤ 64 → zero_after p ≡ true → p.bits / 2 ^ 64 * 2 ^ 64 ≡ p.bits

@@ -4,11 +4,10 @@
 --   -well                      what stands printed is good
 --   -found                     what is read where something stands printed is what was printed
 --   -length                    how long what is printed is
-use Rattle.std.specs.Prelude.{◌≡◌, Bool, true, false, cond, eqb, leb, ltb, length, get_or}
+use Rattle.std.specs.Prelude.{◌≡◌, Bool, true, false, cond, eqb, leb, ltb, length, get_or, Option, None, Some}
 use Rattle.std.proofs.Math.Path.{refl, ap}
 use Rattle.std.proofs.Common.{sym, ◌∙◌, arith, length-append}
 use mathlib.Core.List.{List, [], ◌∷◌, ◌++◌, map, append-nil, map-id}
-use Rattle.std.proofs.Math.Option.{Option, none, some}
 use Prim.Native.Nat.{ℕ, ◌+◌, ◌-◌, ◌^◌, ◌≤◌, ◌<◌}
 use borrow.Author.Tests.{le-leb, lt-ltb, leb-true, ltb-true}
 use Rattle.rules.specs.Words.{any, be, be16, num_at}
@@ -48,8 +47,8 @@ pub record Fine (v : Message) : Type 0 where
   pub ias : Every FineIa v.ias
 
 pub lease-fits : (p : Prefix) (o : Option Prefix) → lease_encodable p o ≡ true → fits p ≡ true
-lease-fits p none h = h
-lease-fits p (some e) h = (both (fits p) (encodable p e) h).0
+lease-fits p None h = h
+lease-fits p (Some e) h = (both (fits p) (encodable p e) h).0
 
 pub listed-fits : (x : Listed) → FineListed x → (x.lease.prefix.length ≤ 128) × (x.lease.prefix.bits < 2 ^ 128)
 listed-fits x f =
@@ -110,24 +109,24 @@ module _ {m : List ℕ} {q : ℕ} (p e : Prefix) (i : encodable p e ≡ true) (h
       rw (exclude-0, exclude-rest, stands-num _ _ [] t (packed_lt p.length e), ← num-packed p.length e) (unpacked-packed p e i)
 
 except-well : (m : List ℕ) (p : Prefix) (o : Option Prefix) → lease_encodable p o ≡ true → Well m (in_prefix m p.length) 0 (except_items p.length o)
-except-well m p none f = tt
-except-well m p (some e) f = ((λ r q h. rw (exclude-well p e (both (fits p) (encodable p e) f).1 h)), tt)
+except-well m p None f = tt
+except-well m p (Some e) f = ((λ r q h. rw (exclude-well p e (both (fits p) (encodable p e) f).1 h)), tt)
 
 abbrev except_bytes : ℕ → Option Prefix → List (List ℕ)
-except_bytes a none = []
-except_bytes a (some e) = exclude_bytes a e ∷ []
+except_bytes a None = []
+except_bytes a (Some e) = exclude_bytes a e ∷ []
 
 except-items : (a : ℕ) (o : Option Prefix) → except_items a o ≡ map (item 67) (except_bytes a o)
-except-items a none = refl
-except-items a (some e) = refl
+except-items a None = refl
+except-items a (Some e) = refl
 
 except-found : (m : List ℕ) (p : Prefix) (o : Option Prefix) → lease_encodable p o ≡ true
     → (fs : List Found) → Match m fs (except_bytes p.length o) → except_at m p (get_or fs 0 Nothing) ≡ o
-except-found m p none f [] h = refl
-except-found m p none f (x ∷ fs) h = absurd h
-except-found m p (some e) f [] h = absurd h
-except-found m p (some e) f (Nothing ∷ fs) h = absurd h.0
-except-found m p (some e) f (At r s n ∷ fs) h = rw h.0.1 (ap some (exclude-found p e (both (fits p) (encodable p e) f).1 h.0.0))
+except-found m p None f [] h = refl
+except-found m p None f (x ∷ fs) h = absurd h
+except-found m p (Some e) f [] h = absurd h
+except-found m p (Some e) f (Nothing ∷ fs) h = absurd h.0
+except-found m p (Some e) f (At r s n ∷ fs) h = rw h.0.1 (ap Some (exclude-found p e (both (fits p) (encodable p e) f).1 h.0.0))
 
 -- ---------------------------------------------------------------- an IA Prefix
 

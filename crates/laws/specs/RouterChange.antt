@@ -3,12 +3,11 @@
 --   server_given, hold_given  the server to remember, or the known one where none is given; a new hold
 --   onto, ..-written        writes, one after another
 --   begin-.., again-.., close-made, accept-.., start-made, hold-..   the writes of each change, by the way that code takes
-use Rattle.std.specs.Prelude.{◌≡◌, Bool, cond, ◌||◌, List, [], ◌∷◌, ◌++◌, map, ℕ, ◌+◌, ◌%◌, ◌≤◌, ◌<◌, ◌^◌, length, take, drop, set, replicate}
+use Rattle.std.specs.Prelude.{◌≡◌, Bool, cond, ◌||◌, List, [], ◌∷◌, ◌++◌, map, ℕ, ◌+◌, ◌%◌, ◌≤◌, ◌<◌, ◌^◌, length, take, drop, set, replicate, Option, None, Some}
 use Rattle.std.proofs.Math.Path.{refl, sym, ap}
 use Rattle.std.proofs.Common.{◌∙◌, subst, arith, take-take}
 use Rattle.std.proofs.Math.Bool.{true, false, or_assoc}
 use Rattle.std.proofs.lemmas.Bool.{false≢true}
-use Rattle.std.proofs.Math.Option.{Option, none, some}
 use Rattle.std.proofs.Math.Dec.{eqb, leb}
 use Rattle.std.proofs.Math.Seq.{take_at}
 use borrow.Author.Tests.{eq-eqb, ne_eqb, leb-true, leb-false, lt-ltb, le-ltb}
@@ -45,9 +44,9 @@ fresh i n now = record {
   freed = now;
   last = now;
   next = 0;
-  server = none;
-  held = none;
-  exchange = none;
+  server = None;
+  held = None;
+  exchange = None;
 }
 
 pub start-fresh : (i : Identity) (n : ℕ) (now : Moment) → router_start i n now ≡ unless (start_tests (good_asker i n) now) (done (fresh i n now))
@@ -56,7 +55,7 @@ start-fresh i n now = refl
 
 -- the server that is given, or where its DUID is empty the one that is known
 abbrev pub server_given : Option Duid → Duid → Option Duid
-server_given s d = cond (eqb (length d) 0) s (some d)
+server_given s d = cond (eqb (length d) 0) s (Some d)
 
 -- a prefix p of length a, without e of length b where that isn't 0, until `end`
 abbrev pub hold_given : ℕ → ℕ → ℕ → ℕ → Moment → Hold
@@ -90,7 +89,7 @@ release-type Release = refl
 release-if : (k : ℕ) → served k ≡ true → is_release (kind_of k) ≡ eqb k 8
 release-if k h = release-type (kind_of k) ∙ ap (λ n. eqb n 8) (sym (served-type k h))
 
-carries-none : (d : Kind) → carries d none ≡ none
+carries-none : (d : Kind) → carries d None ≡ None
 carries-none Solicit = refl
 carries-none Request = refl
 carries-none Renew = refl
@@ -98,9 +97,9 @@ carries-none Rebind = refl
 carries-none Release = refl
 
 -- the open exchange by its type
-pub open-type : (b : List ℕ) (o : Option Exchange) → part 346 35 b ≡ exchange_bytes o → is_open o ≡ true → (some (open_of o) ≡ o) × (num_at b 346 1 ≡ type_of (open_of o).kind)
-open-type b none q h = absurd (false≢true h)
-open-type b (some x) q h = (refl, inner-byte b 346 35 (type_of x.kind) (sent_bytes x.sent) q (omega arith) (type-byte x.kind))
+pub open-type : (b : List ℕ) (o : Option Exchange) → part 346 35 b ≡ exchange_bytes o → is_open o ≡ true → (Some (open_of o) ≡ o) × (num_at b 346 1 ≡ type_of (open_of o).kind)
+open-type b None q h = absurd (false≢true h)
+open-type b (Some x) q h = (refl, inner-byte b 346 35 (type_of x.kind) (sent_bytes x.sent) q (omega arith) (type-byte x.kind))
 
 module _ (b : List ℕ) (sound : sound_router_bytes b ≡ true) (time : ℕ) where
   abbrev r : Router
@@ -117,11 +116,11 @@ module _ (b : List ℕ) (sound : sound_router_bytes b ≡ true) (time : ℕ) whe
     end_read : num_at (part 304 42 b) 34 8 ≡ t
     end_read = num-part b 304 42 34 8 (omega arith) ∙ sym et
 
-    held-not : eqb n 0 || leb t time ≡ true → holds time r.held ≡ none
+    held-not : eqb n 0 || leb t time ≡ true → holds time r.held ≡ None
     unfolding router_of hold_of
     held-not h = rw (← en, end_read) (by (eqb n 0) h)
       where
-        by : (z : Bool) → z || leb t time ≡ true → holds time (cond z none (some (record { lease = lease_of (part 304 42 b); end = t }))) ≡ none
+        by : (z : Bool) → z || leb t time ≡ true → holds time (cond z None (Some (record { lease = lease_of (part 304 42 b); end = t }))) ≡ None
         by true h = refl
         by false h = rw (le-ltb time t (leb-true t time h))
 
@@ -146,7 +145,7 @@ module _ (b : List ℕ) (sound : sound_router_bytes b ≡ true) (time : ℕ) whe
         let w : part 304 34 b ≡ lease_bytes l = sym (take-take 34 42 (drop 304 b) (omega arith)) ∙ ap (take 34) e ∙ take_at (lease_bytes l) _ 34 (lease-size l) in
         rw (← en, y.1, end_read, lt-ltb time t (leb-false t time x.1), z.0, z.1) (w ∙ by (eqb k 5) (eqb k 6))
       where
-        by : (f g : Bool) → lease_bytes (lease_of (part 304 42 b)) ≡ sent_bytes (carries (cond f Renew (cond g Rebind Release)) (some (lease_of (part 304 42 b))))
+        by : (f g : Bool) → lease_bytes (lease_of (part 304 42 b)) ≡ sent_bytes (carries (cond f Renew (cond g Rebind Release)) (Some (lease_of (part 304 42 b))))
         by true g = refl
         by false true = refl
         by false false = refl
@@ -159,7 +158,7 @@ module _ (b : List ℕ) (sound : sound_router_bytes b ≡ true) (time : ℕ) whe
     dated = splice 32 (be 4 ((n + 1) % 2 ^ 24)) (splice 16 (be 8 time) (splice 0 (be 8 time) b))
 
     abbrev open_fields : List (List ℕ)
-    open_fields = set (set (set (set (router_fields r) 0 (be 8 time)) 2 (be 8 time)) 4 (be 4 (number_after r.next))) 10 (exchange_bytes (some (exchange_for (kind_of k) r time)))
+    open_fields = set (set (set (set (router_fields r) 0 (be 8 time)) 2 (be 8 time)) 4 (be 4 (number_after r.next))) 10 (exchange_bytes (Some (exchange_for (kind_of k) r time)))
 
     begin-fields : {d : List ℕ} → d ≡ splice 346 (k ∷ s) dated → Fields d open_fields router_sizes
     unfolding router_of
@@ -168,7 +167,7 @@ module _ (b : List ℕ) (sound : sound_router_bytes b ≡ true) (time : ℕ) whe
         let f0 = field_put fields 0 (be 8 time) (omega arith) (length-be 8 time) refl in
         let f2 = field_put f0 2 (be 8 time) (omega arith) (length-be 8 time) refl in
         let f4 = field_put f2 4 (be 4 (number_after r.next)) (omega arith) (length-be 4 (number_after r.next)) refl in
-        field_put f4 10 (exchange_bytes (some x)) (omega arith) (exchange-size (some x))
+        field_put f4 10 (exchange_bytes (Some x)) (omega arith) (exchange-size (Some x))
         (e ∙ (λ j. splice 346 (served-type k sv j ∷ es j) (splice 32 (be 4 ((en j + 1) % 2 ^ 24)) (splice 16 (be 8 time) (splice 0 (be 8 time) b)))))
 
     pub begin-kept : {c d : List ℕ} → (k ≡ 8 → ⊥) → c ≡ dated → d ≡ splice 346 (k ∷ s) c → d ≡ router_bytes (begun (kind_of k) r time)
@@ -188,12 +187,12 @@ module _ (b : List ℕ) (sound : sound_router_bytes b ≡ true) (time : ℕ) whe
     abbrev x : Exchange
     x = open_of r.exchange
 
-    open-facts : (some x ≡ r.exchange) × (is_release x.kind ≡ eqb k 8)
+    open-facts : (Some x ≡ r.exchange) × (is_release x.kind ≡ eqb k 8)
     open-facts =
         let t = open-type b r.exchange (field_at fields 10 (omega arith)) op in
         (t.0, release-type x.kind ∙ ap (λ n. eqb n 8) (sym (ek ∙ t.1)))
 
-    again-fields : Fields (splice 0 (be 8 time) b) (set (set (router_fields r) 0 (be 8 time)) 10 (exchange_bytes (some x))) router_sizes
+    again-fields : Fields (splice 0 (be 8 time) b) (set (set (router_fields r) 0 (be 8 time)) 10 (exchange_bytes (Some x))) router_sizes
     again-fields =
         let f = field_put fields 0 (be 8 time) (omega arith) (length-be 8 time) refl in
         subst (λ o. Fields (splice 0 (be 8 time) b) (set (set (router_fields r) 0 (be 8 time)) 10 (exchange_bytes o)) router_sizes) (sym open-facts.0) f
@@ -275,11 +274,11 @@ module _ (p : List ℕ) (a b end : ℕ) {c d u v : List ℕ} (s : Sixteen p)
       let f2 = field_put f1 2 (be 1 a) (omega arith) (length-be 1 a) eu in
       field_put f2 5 (be 8 end) (omega arith) (length-be 8 end) ev
 
-  pub hold-bare : (e : List ℕ) → b ≡ 0 → v ≡ held_bytes (some (hold_given (num p) a (num e) b end))
+  pub hold-bare : (e : List ℕ) → b ≡ 0 → v ≡ held_bytes (Some (hold_given (num p) a (num e) b end))
   unfolding be hold_bytes lease_bytes
   hold-bare e z = rw z hold-fields.is
 
-  pub hold-less : (e : List ℕ) {w : List ℕ} → Sixteen e → (b ≡ 0 → ⊥) → w ≡ splice 34 (be 1 b) (splice 18 e v) → w ≡ held_bytes (some (hold_given (num p) a (num e) b end))
+  pub hold-less : (e : List ℕ) {w : List ℕ} → Sixteen e → (b ≡ 0 → ⊥) → w ≡ splice 34 (be 1 b) (splice 18 e v) → w ≡ held_bytes (Some (hold_given (num p) a (num e) b end))
   unfolding be hold_bytes lease_bytes
   hold-less e t z q =
       let f3 = field_put hold-fields 3 (be 16 (num e)) (omega arith) (length-be 16 (num e)) (ap (λ l. splice 18 l v) (sym (sixteen-be e t))) in

@@ -2,9 +2,8 @@
 --   Sound, sound-facts    what soundness says, fact by fact; and back
 --   lease-size, ..        how long each representation is
 --   router_fields          the twelve fields; router_bytes is these, each of its size
-use Rattle.std.specs.Prelude.{◌≡◌, refl, true, List, [], ◌∷◌, ℕ, suc, ◌≤◌, ◌<◌, ◌^◌, leb, ltb, length, replicate}
+use Rattle.std.specs.Prelude.{◌≡◌, refl, true, List, [], ◌∷◌, ℕ, suc, ◌≤◌, ◌<◌, ◌^◌, leb, ltb, length, replicate, Option, None, Some}
 use Rattle.std.proofs.Common.{ap, length-append, leb-true, ltb-true}
-use Rattle.std.proofs.Math.Option.{Option, none, some}
 use Rattle.rules.specs.Words.{be}
 use Rattle.rules.specs.Prefix.{Prefix, Lease}
 use Rattle.rules.specs.Identity.{Duid}
@@ -54,8 +53,8 @@ sound-facts r e =
 -- ---------------------------------------------------------------- sizes
 
 except-size : (o : Option Prefix) → length (except_bytes o) ≡ 17
-except-size none = refl
-except-size (some e) = simp (length-append, length-be)
+except-size None = refl
+except-size (Some e) = simp (length-append, length-be)
 
 pub lease-size : (l : Lease) → length (lease_bytes l) ≡ 34
 unfolding lease_bytes
@@ -69,20 +68,20 @@ pub duid-size : (d : Duid) → length d ≤ 130 → length (duid_bytes d) ≡ 13
 duid-size d h = simp (length-append, length-be, filled-length 130 d h)
 
 pub server-size : (s : Option Duid) → good_server s ≡ true → length (server_bytes s) ≡ 131
-server-size none g = refl
-server-size (some d) g = duid-size d (leb-true _ 130 (both (leb 3 (length d)) (leb (length d) 130) g).1)
+server-size None g = refl
+server-size (Some d) g = duid-size d (leb-true _ 130 (both (leb 3 (length d)) (leb (length d) 130) g).1)
 
 pub held-size : (o : Option Hold) → length (held_bytes o) ≡ 43
-held-size none = refl
-held-size (some h) = ap suc (hold-size h)
+held-size None = refl
+held-size (Some h) = ap suc (hold-size h)
 
 pub sent-size : (o : Option Lease) → length (sent_bytes o) ≡ 34
-sent-size none = refl
-sent-size (some l) = lease-size l
+sent-size None = refl
+sent-size (Some l) = lease-size l
 
 pub exchange-size : (o : Option Exchange) → length (exchange_bytes o) ≡ 35
-exchange-size none = refl
-exchange-size (some x) = ap suc (sent-size x.sent)
+exchange-size None = refl
+exchange-size (Some x) = ap suc (sent-size x.sent)
 
 -- ---------------------------------------------------------------- the fields
 

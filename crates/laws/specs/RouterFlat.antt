@@ -3,12 +3,11 @@
 --   ..-field                                the same as a good one whose representation the bytes are
 --   flat_router, flat-router                 the state, in its bytes
 --   way-.., duid-.., exchange-..            what code returns is the test, by the way that it takes
-use Rattle.std.specs.Prelude.{◌≡◌, Bool, not, ◌&&◌, ◌||◌, leb, ltb, drop, replicate}
+use Rattle.std.specs.Prelude.{◌≡◌, Bool, not, ◌&&◌, ◌||◌, leb, ltb, drop, replicate, Option, None, Some}
 use Rattle.std.proofs.Math.Path.{refl, sym, ap}
 use Rattle.std.proofs.Common.{◌∙◌, subst, length-drop}
 use Rattle.std.proofs.Math.Bool.{true, false, cond, and-true, and-false, and_comm}
 use mathlib.Core.List.{List, [], ◌∷◌, ◌++◌}
-use Rattle.std.proofs.Math.Option.{Option, none, some}
 use Prim.Native.Nat.{ℕ, suc, ◌+◌, ◌-◌, ◌*◌, ◌≤◌, ◌<◌, ◌^◌, min}
 use Rattle.std.proofs.Math.Nat.{add-zero}
 use native.Mathlib.Omega.{arith}
@@ -157,7 +156,7 @@ module _ (b : List ℕ) (y : Bytes b) (at : ℕ) where
       tested false c z = refl
 
       by : (t : Bool) → eqb x 0 ≡ t
-          → lease_encodable p (cond t none (some e)) && zero_after p && same_bytes (except_bytes (cond t none (some e))) (part (at + 17) 17 b)
+          → lease_encodable p (cond t None (Some e)) && zero_after p && same_bytes (except_bytes (cond t None (Some e))) (part (at + 17) 17 b)
           ≡ leb (num_at b (at + 16) 1) 128 && cond t (all (eqb 0) (part (at + 17) 17 b)) (encodable p e) && zero_after p
       by true q = rw (fits_in h, zeros-in b y (at + 17) 17 (omega arith)) (tested (leb (num_at b (at + 16) 1) 128) (all (eqb 0) (part (at + 17) 17 b)) (zero_after p))
       by false q =
@@ -195,7 +194,7 @@ module _ (b : List ℕ) (y : Bytes b) (at : ℕ) (h : at + 131 ≤ length b) whe
 pub known-if : (n : ℕ) (d : Duid) → known (some_if n d) ≡ not (eqb n 0)
 known-if n d = by (eqb n 0)
   where
-    by : (t : Bool) → known (cond t none (some d)) ≡ not t
+    by : (t : Bool) → known (cond t None (Some d)) ≡ not t
     by true = refl
     by false = refl
 
@@ -214,7 +213,7 @@ module _ (n : ℕ) (s : Option Duid) (l : Lease) (e : List ℕ) (q : known s ≡
       by true = refl
       by false = refl
 
-  exchange-kind : (d : Kind) → exchange_good (type_of d) (some (exchange_of d l)) ≡ exchange_test (type_of d)
+  exchange-kind : (d : Kind) → exchange_good (type_of d) (Some (exchange_of d l)) ≡ exchange_test (type_of d)
   unfolding identity_rows
   exchange-kind Solicit = same-zeros 34 e h
   exchange-kind Request = with-server true (same_bytes (replicate 34 0) e) ∙ rw (same-zeros 34 e h)
@@ -225,16 +224,16 @@ module _ (n : ℕ) (s : Option Duid) (l : Lease) (e : List ℕ) (q : known s ≡
   exchange-test : (k : ℕ) → exchange_good k (some_if k (exchange_of (kind_of k) l)) ≡ exchange_test k
   exchange-test k = by (eqb k 0) refl (served k) refl
     where
-      by : (z : Bool) → eqb k 0 ≡ z → (t : Bool) → served k ≡ t → exchange_good k (cond z none (some (exchange_of (kind_of k) l))) ≡ exchange_test k
+      by : (z : Bool) → eqb k 0 ≡ z → (t : Bool) → served k ≡ t → exchange_good k (cond z None (Some (exchange_of (kind_of k) l))) ≡ exchange_test k
       by true z t v = let w = eqb-true k 0 z in rw w (same-zeros 34 e h)
-      by false z true v = let w = served-type k v in subst (λ j. exchange_good j (some (exchange_of (kind_of k) l)) ≡ exchange_test j) (sym w) (exchange-kind (kind_of k))
+      by false z true v = let w = served-type k v in subst (λ j. exchange_good j (Some (exchange_of (kind_of k) l)) ≡ exchange_test j) (sym w) (exchange-kind (kind_of k))
       by false z false v =
           let a = neither (eqb k 1 || eqb k 3 || eqb k 5 || eqb k 6) (eqb k 8) v in
           let b = neither (eqb k 1 || eqb k 3 || eqb k 5) (eqb k 6) a.0 in
           let c = neither (eqb k 1 || eqb k 3) (eqb k 5) b.0 in
           let d = neither (eqb k 1) (eqb k 3) c.0 in
           let m : eqb 8 k ≡ false = ne_eqb 8 k (λ i. eqb-false k 8 a.1 (sym i)) in
-          rw (d.0, d.1, c.1, b.1, a.1, z, m) (and-false (good_exchange s (some (exchange_of Release l))))
+          rw (d.0, d.1, c.1, b.1, a.1, z, m) (and-false (good_exchange s (Some (exchange_of Release l))))
 
 -- tests of a hold in another order
 hold-order : (k g t f c : Bool) → k && g && t && (f && c) ≡ f && k && (g && c) && t
@@ -265,7 +264,7 @@ module _ (b : List ℕ) (y : Bytes b) (l : length b ≡ 384) where
   unfolding server_in
   server-field few = by (eqb (num_at b 172 1) 0)
     where
-      by : (t : Bool) → good_server (cond t none (some (duid_at b 172))) && same_bytes (server_bytes (cond t none (some (duid_at b 172)))) (part 172 131 b)
+      by : (t : Bool) → good_server (cond t None (Some (duid_at b 172))) && same_bytes (server_bytes (cond t None (Some (duid_at b 172)))) (part 172 131 b)
           ≡ cond t (all (eqb 0) (part 172 131 b)) (duid_in 173 (num_at b 172 1) b)
       by true = zeros-in b y 172 131 (omega arith)
       by false = duid-field b y 172 (omega arith) few
@@ -288,8 +287,8 @@ module _ (b : List ℕ) (y : Bytes b) (l : length b ≡ 384) where
       o : eqb 1 (num_at b 303 1) ≡ eqb (num_at b 303 1) 1
       o = same_test 1 (num_at b 303 1) (num_at b 303 1) 1 sym sym
 
-      by : (t : Bool) → good_hold s (cond t none (some (record { lease = lease_at b 304; end = num_at b 338 8 })))
-          && same_bytes (held_bytes (cond t none (some (record { lease = lease_at b 304; end = num_at b 338 8 })))) (part 303 43 b)
+      by : (t : Bool) → good_hold s (cond t None (Some (record { lease = lease_at b 304; end = num_at b 338 8 })))
+          && same_bytes (held_bytes (cond t None (Some (record { lease = lease_at b 304; end = num_at b 338 8 })))) (part 303 43 b)
           ≡ cond t (all (eqb 0) (part 303 43 b)) (eqb (num_at b 303 1) 1 && not (eqb (num_at b 172 1) 0) && lease_in 304 b && good_end (num_at b 338 8))
       by true = zeros-in b y 303 43 (omega arith)
       by false =
@@ -310,7 +309,7 @@ module _ (b : List ℕ) (y : Bytes b) (l : length b ≡ 384) where
   server-length : num_at b 172 1 ≤ 130 → length (server_bytes (some_if (num_at b 172 1) (duid_at b 172))) ≡ 131
   server-length few = by (eqb (num_at b 172 1) 0)
     where
-      by : (t : Bool) → length (server_bytes (cond t none (some (duid_at b 172)))) ≡ 131
+      by : (t : Bool) → length (server_bytes (cond t None (Some (duid_at b 172)))) ≡ 131
       by true = refl
       by false = duid-size (duid_at b 172) (rw (duid-length b y 172 (omega arith) few) few)
 
@@ -358,7 +357,7 @@ module _ (b : List ℕ) (y : Bytes b) (l : length b ≡ 384) where
       λ at m g. duid-short b y at (omega arith) m (leb-true _ 130 (both (leb 3 (length (duid_at b at))) (leb (length (duid_at b at)) 130) g).1) in
       (short 41 (omega arith) d.0, by (eqb (num_at b 172 1) 0) refl f.server (short 172 (omega arith)))
     where
-      by : (t : Bool) → eqb (num_at b 172 1) 0 ≡ t → good_server (cond t none (some (duid_at b 172))) ≡ true → (good_duid (duid_at b 172) ≡ true → num_at b 172 1 ≤ 130) → num_at b 172 1 ≤ 130
+      by : (t : Bool) → eqb (num_at b 172 1) 0 ≡ t → good_server (cond t None (Some (duid_at b 172))) ≡ true → (good_duid (duid_at b 172) ≡ true → num_at b 172 1 ≤ 130) → num_at b 172 1 ≤ 130
       by true e g s = let z = eqb-true (num_at b 172 1) 0 e in omega arith
       by false e g s = s g
 

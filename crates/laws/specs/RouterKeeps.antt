@@ -3,10 +3,9 @@
 --   begun-sound, again-sound, closed-sound a new exchange, the open one again, none
 --   number-before, open-some               the number, the exchange that is open
 --   query-able                             the message of the open exchange is fine and has at most 344 bytes
-use Rattle.std.specs.Prelude.{◌≡◌, refl, Bool, true, false, cond, not, ◌&&◌, ◌||◌, ℕ, ◌≤◌, ◌<◌, ◌^◌, leb, ltb, length}
+use Rattle.std.specs.Prelude.{◌≡◌, refl, Bool, true, false, cond, not, ◌&&◌, ◌||◌, ℕ, ◌≤◌, ◌<◌, ◌^◌, leb, ltb, length, Option, None, Some}
 use Rattle.std.proofs.Math.Path.{subst}
 use Rattle.std.proofs.lemmas.Bool.{false≢true}
-use Rattle.std.proofs.Math.Option.{Option, none, some}
 use Rattle.std.proofs.Math.Nat.{mod-lt}
 use Rattle.std.proofs.Common.{arith, pow_pos, leb-true, le-leb, lt-ltb}
 use Rattle.rules.specs.Prefix.{Lease, lease_encodable, zero_after}
@@ -40,19 +39,19 @@ moment false n f l = omega arith
 
 -- what is held and hasn't ended is good, and has a server
 held-good : (s : Option Duid) (n : Moment) (h : Option Hold) → good_hold s h ≡ true → is_held (holds n h) ≡ true
-    → (l : Lease) × (holds n h ≡ some l) × (good_lease l ≡ true) × (known s ≡ true)
-held-good s n none g e = absurd (false≢true e)
-held-good s n (some h) g e = by (ltb n h.end) e
+    → (l : Lease) × (holds n h ≡ Some l) × (good_lease l ≡ true) × (known s ≡ true)
+held-good s n None g e = absurd (false≢true e)
+held-good s n (Some h) g e = by (ltb n h.end) e
   where
     f : (known s ≡ true) × (good_lease h.lease ≡ true)
     f = both (known s) (good_lease h.lease) (both (known s && good_lease h.lease) (good_end h.end) g).0
 
-    by : (b : Bool) → is_held (cond b (some h.lease) none) ≡ true
-        → (l : Lease) × (cond b (some h.lease) none ≡ some l) × (good_lease l ≡ true) × (known s ≡ true)
+    by : (b : Bool) → is_held (cond b (Some h.lease) None) ≡ true
+        → (l : Lease) × (cond b (Some h.lease) None ≡ Some l) × (good_lease l ≡ true) × (known s ≡ true)
     by true e = (h.lease, refl, f.1, f.0)
     by false e = absurd (false≢true e)
 
-begun-exchange : (k : Kind) (r : Router) (now : Moment) → Sound r → allows k r now ≡ true → good_exchange r.server (some (exchange_for k r now)) ≡ true
+begun-exchange : (k : Kind) (r : Router) (now : Moment) → Sound r → allows k r now ≡ true → good_exchange r.server (Some (exchange_for k r now)) ≡ true
 unfolding identity_rows
 begun-exchange Solicit r now s a = refl
 begun-exchange Request r now s a = rw a
@@ -61,7 +60,7 @@ begun-exchange Rebind r now s a = let x = held-good r.server now r.held s.held a
 begun-exchange Release r now s a = let x = held-good r.server now r.held s.held a in rw (x.3, x.1) x.2
 
 -- a Release holds nothing
-kept-good : (b : Bool) (s : Option Duid) (h : Option Hold) → good_hold s h ≡ true → good_hold s (cond b none h) ≡ true
+kept-good : (b : Bool) (s : Option Duid) (h : Option Hold) → good_hold s h ≡ true → good_hold s (cond b None h) ≡ true
 kept-good true s h g = refl
 kept-good false s h g = g
 
@@ -85,7 +84,7 @@ module _ (r : Router) (now : Moment) (good : sound_router r ≡ true) (late : r.
 
   -- ---------------------------------------------------------------- the open exchange again, or none
 
-  pub again-sound : (x : Exchange) → r.exchange ≡ some x → sound_router (again r now x) ≡ true
+  pub again-sound : (x : Exchange) → r.exchange ≡ Some x → sound_router (again r now x) ≡ true
   unfolding again
   again-sound x e = sound-made (again r now x) (record {
     asker = s.asker;
@@ -118,30 +117,30 @@ module _ (r : Router) (now : Moment) (good : sound_router r ≡ true) (late : r.
 pub number-before : (x : ℕ) → x < 2 ^ 24 → number_before (number_after x) ≡ x
 number-before x h = omega arith
 
-pub open-some : (o : Option Exchange) → is_open o ≡ true → o ≡ some (open_of o)
-open-some none e = absurd (false≢true e)
-open-some (some x) e = refl
+pub open-some : (o : Option Exchange) → is_open o ≡ true → o ≡ Some (open_of o)
+open-some None e = absurd (false≢true e)
+open-some (Some x) e = refl
 
 encodes : (l : Lease) → good_lease l ≡ true → lease_encodable l.prefix l.except ≡ true
 unfolding good_lease
 encodes l g = (both (lease_encodable l.prefix l.except) (zero_after l.prefix) g).0
 
 sent-good : (k : Kind) (o : Option Lease) → good_sent k o ≡ true → GoodSent o
-sent-good k none g = tt
-sent-good Solicit (some l) g = absurd (false≢true g)
-sent-good Request (some l) g = absurd (false≢true g)
-sent-good Renew (some l) g = encodes l g
-sent-good Rebind (some l) g = encodes l g
-sent-good Release (some l) g = encodes l g
+sent-good k None g = tt
+sent-good Solicit (Some l) g = absurd (false≢true g)
+sent-good Request (Some l) g = absurd (false≢true g)
+sent-good Renew (Some l) g = encodes l g
+sent-good Rebind (Some l) g = encodes l g
+sent-good Release (Some l) g = encodes l g
 
 server-short : (o : Option Duid) → good_server o ≡ true → Every (λ d. length d ≤ 130) (servers_of o)
-server-short none g = tt
-server-short (some d) g = (leb-true _ 130 (both (leb 3 (length d)) (leb (length d) 130) g).1, tt)
+server-short None g = tt
+server-short (Some d) g = (leb-true _ 130 (both (leb 3 (length d)) (leb (length d) 130) g).1, tt)
 
-pub query-able : (r : Router) → sound_router r ≡ true → (x : Exchange) → r.exchange ≡ some x → Sendable (query r x) 344
+pub query-able : (r : Router) → sound_router r ≡ true → (x : Exchange) → r.exchange ≡ Some x → Sendable (query r x) 344
 query-able r good x e =
     let s = sound-facts r good in
     let a = asker-facts r s in
-    let g : good_exchange r.server (some x) ≡ true = subst (λ o. good_exchange r.server o ≡ true) e s.exchange in
+    let g : good_exchange r.server (Some x) ≡ true = subst (λ o. good_exchange r.server o ≡ true) e s.exchange in
     let f = both (not (wants_server x.kind) || known r.server) (good_sent x.kind x.sent) g in
     query-sent r x a.0 a.1 (omega arith) (server-short r.server s.server) (sent-good x.kind x.sent f.1)

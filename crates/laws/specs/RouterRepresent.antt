@@ -2,12 +2,11 @@
 --   ..-read              what the bytes at a place say where they are the representation of something good
 --   router-length, router-round, router-sound-bytes
 --   router-put           a field put in at its place is the state with that field changed
-use Rattle.std.specs.Prelude.{◌≡◌, true, not, ◌&&◌, ◌||◌, ℕ, suc, ◌+◌, ◌-◌, ◌*◌, ◌%◌, ◌≤◌, ◌<◌, ◌^◌, eqb, leb, ltb, get_or, take, set, replicate}
+use Rattle.std.specs.Prelude.{◌≡◌, true, not, ◌&&◌, ◌||◌, ℕ, suc, ◌+◌, ◌-◌, ◌*◌, ◌%◌, ◌≤◌, ◌<◌, ◌^◌, eqb, leb, ltb, get_or, take, set, replicate, Option, None, Some}
 use Rattle.std.proofs.Math.Path.{refl, ap}
 use Rattle.std.proofs.Common.{sym, ◌∙◌, subst, add-zero, mod-eq_of_lt, arith}
 use Rattle.std.proofs.lemmas.Bool.{false≢true}
 use mathlib.Core.List.{List, [], ◌∷◌, ◌++◌, append-nil}
-use Rattle.std.proofs.Math.Option.{Option, none, some}
 use Rattle.std.proofs.Math.ListN.{length}
 use Rattle.std.proofs.Math.Seq.{take_all}
 use borrow.Author.Tests.{ne_eqb, leb-true, le-leb, ltb-true}
@@ -54,13 +53,13 @@ module _ (l : Lease) (good : good_lease l ≡ true) (z : List ℕ) where
   lease-fits = by l.except encodes
     where
       by : (o : Option Prefix) → lease_encodable l.prefix o ≡ true → fits l.prefix ≡ true
-      by none h = h
-      by (some e) h = (both (fits l.prefix) (encodable l.prefix e) h).0
+      by None h = h
+      by (Some e) h = (both (fits l.prefix) (encodable l.prefix e) h).0
 
   except-read : (o : Option Prefix) → lease_encodable l.prefix o ≡ true → Stands m 17 (except_bytes o) → some_if (num_at m 33 1) (prefix (num_at m 17 16) (num_at m 33 1)) ≡ o
   unfolding be
-  except-read none h s = rw (stands-num 1 0 [] (stands-tail (replicate 16 0) (be 1 0 ++ []) s refl) (omega arith))
-  except-read (some e) h s =
+  except-read None h s = rw (stands-num 1 0 [] (stands-tail (replicate 16 0) (be 1 0 ++ []) s refl) (omega arith))
+  except-read (Some e) h s =
       let f = except-fits l.prefix e lease-fits (both (fits l.prefix) (encodable l.prefix e) h).1 in
       let t = stands_after 16 e.bits (be 1 e.length) s refl in
       rw (stands-num 16 e.bits (be 1 e.length) s f.0, stands-num 1 e.length [] t (omega arith), ne_eqb e.length 0 (λ q. omega arith))
@@ -88,17 +87,17 @@ hold-round h g e =
     let n : num_at m 34 8 ≡ h.end = stands-num 8 h.end [] s (end_fits h.end e) in
     λ j. record { lease = lease-round h.lease g (be 8 h.end) j; end = n j }
 
-exchange-round : (k : Kind) (o : Option Lease) → good_sent k o ≡ true → some_if (type_of k) (exchange_of (kind_of (type_of k)) (lease_of (sent_bytes o))) ≡ some (record { kind = k; sent = o })
-exchange-round Solicit none g = refl
-exchange-round Solicit (some l) g = absurd (false≢true g)
-exchange-round Request none g = refl
-exchange-round Request (some l) g = absurd (false≢true g)
-exchange-round Renew none g = absurd (false≢true g)
-exchange-round Renew (some l) g = rw (lease-whole l g)
-exchange-round Rebind none g = absurd (false≢true g)
-exchange-round Rebind (some l) g = rw (lease-whole l g)
-exchange-round Release none g = absurd (false≢true g)
-exchange-round Release (some l) g = rw (lease-whole l g)
+exchange-round : (k : Kind) (o : Option Lease) → good_sent k o ≡ true → some_if (type_of k) (exchange_of (kind_of (type_of k)) (lease_of (sent_bytes o))) ≡ Some (record { kind = k; sent = o })
+exchange-round Solicit None g = refl
+exchange-round Solicit (Some l) g = absurd (false≢true g)
+exchange-round Request None g = refl
+exchange-round Request (Some l) g = absurd (false≢true g)
+exchange-round Renew None g = absurd (false≢true g)
+exchange-round Renew (Some l) g = rw (lease-whole l g)
+exchange-round Rebind None g = absurd (false≢true g)
+exchange-round Rebind (Some l) g = rw (lease-whole l g)
+exchange-round Release None g = absurd (false≢true g)
+exchange-round Release (Some l) g = rw (lease-whole l g)
 
 pub type-byte : (k : Kind) → type_of k < 256
 type-byte Solicit = omega arith
@@ -135,24 +134,24 @@ module _ (b : List ℕ) (at : ℕ) where
       (e, ap (λ k. part (at + 1) k b) e ∙ inner 131 1 n (duid_bytes d) q (omega arith) ∙ part-mid 1 n (be 1 n) d (replicate (130 - n) 0) (length-be 1 n) refl)
 
   server-read : (s : Option Duid) → good_server s ≡ true → part at 131 b ≡ server_bytes s → some_if (num_at b at 1) (duid_at b at) ≡ s
-  server-read none g q = rw (inner-byte 131 0 (replicate 130 0) q (omega arith) (omega arith))
-  server-read (some d) g q =
+  server-read None g q = rw (inner-byte 131 0 (replicate 130 0) q (omega arith) (omega arith))
+  server-read (Some d) g q =
       let f = both (leb 3 (length d)) (leb (length d) 130) g in
       let m = leb-true 3 (length d) f.0 in
       let r = duid-read d (leb-true (length d) 130 f.1) q in
       rw (r.1, r.0, ne_eqb (length d) 0 (λ z. omega arith))
 
   pub held-read : (s : Option Duid) (o : Option Hold) → good_hold s o ≡ true → part at 43 b ≡ held_bytes o → some_if (num_at b at 1) (hold_of (part (at + 1) 42 b)) ≡ o
-  held-read s none g q = rw (inner-byte 43 0 (replicate 42 0) q (omega arith) (omega arith))
-  held-read s (some h) g q =
+  held-read s None g q = rw (inner-byte 43 0 (replicate 42 0) q (omega arith) (omega arith))
+  held-read s (Some h) g q =
       let a = both (known s && good_lease h.lease) (good_end h.end) g in
       let l = (both (known s) (good_lease h.lease) a.0).1 in
       rw (inner-byte 43 1 (hold_bytes h) q (omega arith) (omega arith), inner-rest 1 42 (hold_bytes h) q (hold-size h), hold-round h l a.1)
 
   exchange-read : (s : Option Duid) (o : Option Exchange) → good_exchange s o ≡ true → part at 35 b ≡ exchange_bytes o
       → some_if (num_at b at 1) (exchange_of (kind_of (num_at b at 1)) (lease_of (part (at + 1) 34 b))) ≡ o
-  exchange-read s none g q = rw (inner-byte 35 0 (replicate 34 0) q (omega arith) (omega arith))
-  exchange-read s (some x) g q =
+  exchange-read s None g q = rw (inner-byte 35 0 (replicate 34 0) q (omega arith) (omega arith))
+  exchange-read s (Some x) g q =
       let k = x.kind in
       let a = both (not (wants_server k) || known s) (good_sent k x.sent) g in
       rw (inner-byte 35 (type_of k) (sent_bytes x.sent) q (omega arith) (type-byte k), inner-rest (type_of k) 34 (sent_bytes x.sent) q (sent-size x.sent))

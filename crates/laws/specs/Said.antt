@@ -1,9 +1,9 @@
 -- What the box says of an IA_PD is good: it has an encoding, it is short, and only the bound or offered prefix can be taken.
-use Rattle.std.specs.Prelude.{◌≡◌, Bool, true, false, cond, List, [], ◌∷◌, map, ℕ, ◌≤◌, ◌<◌, ◌^◌, length, get_or}
+use Rattle.std.specs.Prelude.{◌≡◌, Bool, true, false, cond, List, [], ◌∷◌, map, ℕ, ◌≤◌, ◌<◌, ◌^◌, length, get_or, Option, None, Some}
 use Rattle.std.proofs.Math.Path.{refl}
 use Rattle.std.proofs.Common.{sym, ap, ◌∙◌, arith, le-leb, lt-ltb}
 use Rattle.std.proofs.Math.Bool.{not}
-use Rattle.std.proofs.Math.Option.{Option, none, some, none-ne-some}
+use Rattle.std.proofs.lemmas.Option.{none-some}
 use Rattle.std.proofs.lemmas.List.{length-map}
 use Rattle.rules.specs.Words.{keep, first}
 use Rattle.rules.specs.Prefix.{Prefix, Lease, lease_encodable, fits, zero_after, same_prefix, last64}
@@ -38,8 +38,8 @@ last64-length p = refl
 -- a good excluded prefix is at most the last /64, and has an encoding
 except-good : (s : Settings) (p : Prefix) (o : Option Prefix) → good_except s p o ≡ true → fits p ≡ true → zero_after p ≡ true → p.length < 64
     → (lease_encodable p o ≡ true) × UpTo 64 o
-except-good s p none e t z l = (t, tt)
-except-good s p (some e) q t z l =
+except-good s p None e t z l = (t, tt)
+except-good s p (Some e) q t z l =
     let w : e ≡ last64 p = same-prefix e (last64 p) (both s.exclusion (same_prefix e (last64 p)) q).1 in
     (both-made t (rw w (last64-encodable p l z)), omega (arith, ap (λ x. x.length) w ∙ last64-length p))
 
@@ -56,23 +56,23 @@ lease-good s r g h =
 
 -- of the other prefixes no router takes one
 abbrev pub Quiet : Verdict → Type 0
-Quiet (offer l xs) = first takes xs ≡ none
-Quiet (return xs) = first takes xs ≡ none
+Quiet (offer l xs) = first takes xs ≡ None
+Quiet (return xs) = first takes xs ≡ None
 Quiet (say k) = Unit {0}
 Quiet success = Unit {0}
 Quiet silence = Unit {0}
 
 -- what is returned has no lifetime
-returned-none : (l : List Listed) → first takes (map returned l) ≡ none
+returned-none : (l : List Listed) → first takes (map returned l) ≡ None
 returned-none [] = refl
 returned-none (x ∷ l) = returned-none l
 
 module _ (s : Settings) (now : Moment) (q : Asked) (rs : List Record) (good : Good s) (gi : good_identity q.who ≡ true) (soon : now < 2 ^ 48) (fine : Fine s rs)
     (told : Every FineListed q.listed) (few : length q.listed ≤ 4) where
-  bound-good : (r : Record) → binding q.who rs ≡ some r → GoodOffer r.lease
+  bound-good : (r : Record) → binding q.who rs ≡ Some r → GoodOffer r.lease
   bound-good r b = lease-good s r good (first-all (is_binding q.who) (good_record s) rs b fine.good).1
 
-  chosen-good : (hint : Option Prefix) (p : Prefix) → choose s rs hint ≡ some p → GoodOffer (lease_for s q.asks p)
+  chosen-good : (hint : Option Prefix) (p : Prefix) → choose s rs hint ≡ Some p → GoodOffer (lease_for s q.asks p)
   chosen-good hint p e =
       let c = choose-chosen s rs good.lengths hint e in
       lease-good s (fresh s q.who q.asks now rs p good gi soon c) good (fresh-good s q.who q.asks now rs p good gi soon c)
@@ -83,29 +83,29 @@ module _ (s : Settings) (now : Moment) (q : Asked) (rs : List Record) (good : Go
   others-good : (p : Prefix) → GoodReturn (others p q.listed)
   others-good p = record { fine = others-fine p q.listed told; bare = others-bare p q.listed; few = omega (arith, others-few p q.listed) }
 
-  others-quiet : (p : Prefix) → first takes (others p q.listed) ≡ none
+  others-quiet : (p : Prefix) → first takes (others p q.listed) ≡ None
   unfolding others
   others-quiet p = returned-none (keep (λ x. not (same_prefix x.lease.prefix p)) q.listed)
 
   solicit-said : (f : Option Record) (c : Option Prefix) → binding q.who rs ≡ f → choose s rs (hint_of q.listed) ≡ c
       → GoodVerdict false (serve_solicit s now q rs f c).verdict × Quiet (serve_solicit s now q rs f c).verdict
-  solicit-said (some r) c b e = ((refl, bound-good r b, none-good), refl)
-  solicit-said none (some p) b e = ((refl, chosen-good (hint_of q.listed) p e, none-good), refl)
-  solicit-said none none b e = (tt, tt)
+  solicit-said (Some r) c b e = ((refl, bound-good r b, none-good), refl)
+  solicit-said None (Some p) b e = ((refl, chosen-good (hint_of q.listed) p e, none-good), refl)
+  solicit-said None None b e = (tt, tt)
 
   request-said : (f : Option Record) (c : Option Prefix) → binding q.who rs ≡ f → choose s rs (hint_of q.listed) ≡ c
       → GoodVerdict false (serve_request s now q rs f c).verdict × Quiet (serve_request s now q rs f c).verdict
-  request-said (some r) c b e = ((refl, bound-good r b, none-good), refl)
-  request-said none (some p) b e = ((refl, chosen-good (hint_of q.listed) p e, none-good), refl)
-  request-said none none b e = (tt, tt)
+  request-said (Some r) c b e = ((refl, bound-good r b, none-good), refl)
+  request-said None (Some p) b e = ((refl, chosen-good (hint_of q.listed) p e, none-good), refl)
+  request-said None None b e = (tt, tt)
 
   renew-said : (f : Option Record) → binding q.who rs ≡ f → GoodVerdict false (serve_renew s now q rs f).verdict × Quiet (serve_renew s now q rs f).verdict
-  renew-said (some r) b = ((refl, bound-good r b, others-good r.lease.prefix), others-quiet r.lease.prefix)
-  renew-said none b = (tt, tt)
+  renew-said (Some r) b = ((refl, bound-good r b, others-good r.lease.prefix), others-quiet r.lease.prefix)
+  renew-said None b = (tt, tt)
 
   rebind-said : (f : Option Record) → binding q.who rs ≡ f → GoodVerdict false (serve_rebind s now q rs f).verdict × Quiet (serve_rebind s now q rs f).verdict
-  rebind-said (some r) b = renew-said (some r) b
-  rebind-said none b = by (gone s q.listed)
+  rebind-said (Some r) b = renew-said (Some r) b
+  rebind-said None b = by (gone s q.listed)
     where
       all-good : GoodReturn (map returned q.listed)
       all-good = record { fine = all-returned-fine q.listed told; bare = returned-bare q.listed; few = rw (length-map q.listed returned) few }
@@ -115,8 +115,8 @@ module _ (s : Settings) (now : Moment) (q : Asked) (rs : List Record) (good : Go
       by false = (tt, tt)
 
   release-said : (f : Option Record) → GoodVerdict true (serve_release s now q rs f).verdict × Quiet (serve_release s now q rs f).verdict
-  release-said none = (tt, tt)
-  release-said (some r) = by (is_freed r q.listed)
+  release-said None = (tt, tt)
+  release-said (Some r) = by (is_freed r q.listed)
     where
       by : (b : Bool) → GoodVerdict true (cond b (leaves (give_up (is_binding q.who) rs) success) (leaves rs no_binding)).verdict
           × Quiet (cond b (leaves (give_up (is_binding q.who) rs) success) (leaves rs no_binding)).verdict
@@ -134,15 +134,15 @@ module _ (s : Settings) (now : Moment) (q : Asked) (rs : List Record) (good : Go
 -- ---------------------------------------------------------------- what a router takes
 
 -- what a router takes of an answer is what was offered
-pub offer-taken : (s : Settings) (i : ℕ) (v : Verdict) (d : Ia) → d.listed ≡ [] → Quiet v → (x : Listed) → first takes (get_or (ia_for s i v) 0 d).listed ≡ some x
+pub offer-taken : (s : Settings) (i : ℕ) (v : Verdict) (d : Ia) → d.listed ≡ [] → Quiet v → (x : Listed) → first takes (get_or (ia_for s i v) 0 d).listed ≡ Some x
     → (l : Lease) × (xs : List Listed) × (v ≡ offer l xs) × (x ≡ offered s l) × ((get_or (ia_for s i v) 0 d).iaid ≡ i)
 offer-taken s i (offer l xs) d n f x e = by (takes (offered s l)) e
   where
-    by : (b : Bool) → cond b (some (offered s l)) (first takes xs) ≡ some x
+    by : (b : Bool) → cond b (Some (offered s l)) (first takes xs) ≡ Some x
         → (l' : Lease) × (ys : List Listed) × (offer l xs ≡ offer l' ys) × (x ≡ offered s l') × (i ≡ i)
     by true q = let w : offered s l ≡ x = cc in (l, xs, refl, sym w, refl)
-    by false q = absurd (none-ne-some x (sym f ∙ q))
-offer-taken s i (return xs) d n f x e = absurd (none-ne-some x (sym f ∙ e))
-offer-taken s i (say k) d n f x e = absurd (none-ne-some x e)
-offer-taken s i success d n f x e = absurd (none-ne-some x (sym (ap (first takes) n) ∙ e))
-offer-taken s i silence d n f x e = absurd (none-ne-some x (sym (ap (first takes) n) ∙ e))
+    by false q = absurd (none-some x (sym f ∙ q))
+offer-taken s i (return xs) d n f x e = absurd (none-some x (sym f ∙ e))
+offer-taken s i (say k) d n f x e = absurd (none-some x e)
+offer-taken s i success d n f x e = absurd (none-some x (sym (ap (first takes) n) ∙ e))
+offer-taken s i silence d n f x e = absurd (none-some x (sym (ap (first takes) n) ∙ e))

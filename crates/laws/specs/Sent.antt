@@ -2,10 +2,9 @@
 --   GoodOffer, GoodReturn, GoodVerdict   what the box may say of an IA_PD
 --   GoodSent                             the prefix that a router may send
 --   answer-sent, query-sent              then the answer, the router's message, is fine and has at most 442, 344 bytes
-use Rattle.std.specs.Prelude.{◌≡◌, Bool, true, false, cond, ℕ, ◌*◌, ◌/◌, ◌^◌, ◌≤◌, ◌<◌, eqb, length}
+use Rattle.std.specs.Prelude.{◌≡◌, Bool, true, false, cond, ℕ, ◌*◌, ◌/◌, ◌^◌, ◌≤◌, ◌<◌, eqb, length, Option, None, Some}
 use Rattle.std.proofs.Math.Path.{refl}
 use mathlib.Core.List.{List, [], ◌∷◌}
-use Rattle.std.proofs.Math.Option.{Option, none, some}
 use Rattle.std.proofs.Common.{mod-lt, arith, le-leb, lt-ltb, pow_pos}
 use Rattle.std.proofs.Math.Dec.{lit≤}
 use Rattle.rules.specs.Prefix.{prefix, Lease, lease, lease_encodable}
@@ -96,8 +95,8 @@ module _ (s : Settings) (v : Message) (i : ℕ) (one : length v.clients ≤ 1) (
 -- ---------------------------------------------------------------- the router
 
 abbrev pub GoodSent : Option Lease → Type 0
-GoodSent none = Unit {0}
-GoodSent (some l) = lease_encodable l.prefix l.except ≡ true
+GoodSent None = Unit {0}
+GoodSent (Some l) = lease_encodable l.prefix l.except ≡ true
 
 -- one prefix at most, with zero lifetimes
 pub record Listing (xs : List Listed) : Type 0 where
@@ -113,20 +112,20 @@ listing-good l h = record {
 }
 
 lists-good : (n : ℕ) (o : Option Lease) → n ≤ 128 → GoodSent o → Listing (lists n o)
-lists-good n (some l) h g = listing-good l g
-lists-good n none h g = by (eqb n 0)
+lists-good n (Some l) h g = listing-good l g
+lists-good n None h g = by (eqb n 0)
   where
-    by : (b : Bool) → Listing (cond b [] (listing (lease (prefix 0 n) none)))
+    by : (b : Bool) → Listing (cond b [] (listing (lease (prefix 0 n) None)))
     by true = record { fine = tt; short = tt; one = lit≤ tt }
-    by false = listing-good (lease (prefix 0 n) none) (both-made (le-leb n 128 h) (lt-ltb 0 (2 ^ 128) (pow_pos 128)))
+    by false = listing-good (lease (prefix 0 n) None) (both-made (le-leb n 128 h) (lt-ltb 0 (2 ^ 128) (pow_pos 128)))
 
 server-short : (b : Bool) (o : Option Duid) → Every (λ d. length d ≤ 130) (servers_of o) → Every (λ d. length d ≤ 130) (cond b (servers_of o) [])
 server-short true o h = h
 server-short false o h = tt
 
 server-one : (b : Bool) (o : Option Duid) → length (cond b (servers_of o) []) ≤ 1
-server-one true none = lit≤ tt
-server-one true (some d) = lit≤ tt
+server-one true None = lit≤ tt
+server-one true (Some d) = lit≤ tt
 server-one false o = lit≤ tt
 
 pub query-sent : (r : Router) (x : Exchange) → length r.me.duid ≤ 130 → r.me.iaid < 2 ^ 32 → r.wanted ≤ 128

@@ -5,10 +5,9 @@
 --   offer-, return-, say-, ask-most      the IA_PDs of an answer and of a router's message
 --   Addressed                            at most one Client ID and one Server ID, each of at most 130 bytes
 --   answer-size, status-size, query-size whole messages
-use Rattle.std.specs.Prelude.{◌≡◌, refl, Bool, true, false, cond, ℕ, ◌+◌, ◌*◌, ◌≤◌, eqb}
+use Rattle.std.specs.Prelude.{◌≡◌, refl, Bool, true, false, cond, ℕ, ◌+◌, ◌*◌, ◌≤◌, eqb, Option, None, Some}
 use Rattle.std.proofs.Common.{ap, sym, ◌∙◌, suc-mul, lit≤, length-append}
 use mathlib.Core.List.{List, [], ◌∷◌, ◌++◌, map, append_assoc}
-use Rattle.std.proofs.Math.Option.{Option, none, some}
 use Rattle.std.proofs.Math.Nat.{one-mul, mul-le-mul_right}
 use native.Mathlib.Omega.{arith}
 use Rattle.std.proofs.Math.ListN.{length}
@@ -68,16 +67,16 @@ statuses-most l = map-most 13 15 status_bytes l (every (λ k. omega (arith, name
 
 -- an excluded prefix of at most b bits
 abbrev pub UpTo : ℕ → Option Prefix → Type 0
-UpTo b none = Unit {0}
-UpTo b (some e) = e.length ≤ b
+UpTo b None = Unit {0}
+UpTo b (Some e) = e.length ≤ b
 
 pub encodable-upto : (p : Prefix) (o : Option Prefix) → lease_encodable p o ≡ true → UpTo 128 o
-encodable-upto p none h = tt
-encodable-upto p (some e) h = (encodes p e (both (fits p) (encodable p e) h).1).most
+encodable-upto p None h = tt
+encodable-upto p (Some e) h = (encodes p e (both (fits p) (encodable p e) h).1).most
 
 except-most : (a b : ℕ) (o : Option Prefix) → UpTo b o → length (printed (except_items a o)) ≤ 5 + bytes_for a b
-except-most a b none h = omega (arith, none-length)
-except-most a b (some e) h = omega (arith, cons-length 67 (exclude_bytes a e) [], none-length, exclude-length a e)
+except-most a b None h = omega (arith, none-length)
+except-most a b (Some e) h = omega (arith, cons-length 67 (exclude_bytes a e) [], none-length, exclude-length a e)
 
 -- an IA Prefix without Status Codes
 pub listed-most : (b : ℕ) (x : Listed) → UpTo b x.lease.except → x.statuses ≡ [] → length (listed_bytes x) ≤ 30 + bytes_for x.lease.prefix.length b
@@ -95,7 +94,7 @@ listed-most b x h e =
 
 -- an IA Prefix without options, as the box returns it
 pub record Bare (x : Listed) : Type 0 where
-  pub except : x.lease.except ≡ none
+  pub except : x.lease.except ≡ None
   pub statuses : x.statuses ≡ []
 
 bare-most : (x : Listed) → Bare x → length (listed_bytes x) ≤ 25

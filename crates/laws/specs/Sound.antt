@@ -1,8 +1,7 @@
 -- A sound table stays sound: soundness taken apart and put together, and what each change of the records keeps.
-use Rattle.std.specs.Prelude.{◌≡◌, Bool, cond, not, ◌&&◌, List, [], ◌∷◌, ◌++◌, ◌⊎◌, ◌+◌, ◌≤◌, ◌<◌, ◌^◌, max, eqb, leb, ltb, length}
+use Rattle.std.specs.Prelude.{◌≡◌, Bool, cond, not, ◌&&◌, List, [], ◌∷◌, ◌++◌, ◌⊎◌, ◌+◌, ◌≤◌, ◌<◌, ◌^◌, max, eqb, leb, ltb, length, Option, None, Some}
 use Rattle.std.proofs.Math.Path.{refl}
 use Rattle.std.proofs.Math.Bool.{true, false}
-use Rattle.std.proofs.Math.Option.{Option, none, some}
 use Rattle.std.proofs.Common.{inl, inr, le_of_lt, arith, length-append, eq-eqb, leb-true, le-leb, ltb-true, lt-ltb}
 use Rattle.std.proofs.Math.Nat.{max-eq_left, max-eq_right}
 use Rattle.std.proofs.Math.ListN.{length-map}
@@ -231,7 +230,7 @@ give-up-fine s f rs g = record {
 }
 
 -- a good record of an identity that isn't bound yet, with a prefix that is free, put last
-pub last-fine : (s : Settings) (rs : List Record) (r : Record) → Fine s rs → length rs < 256 → good_record s r ≡ true → free rs (area r) ≡ true → binding r.owner rs ≡ none
+pub last-fine : (s : Settings) (rs : List Record) (r : Record) → Fine s rs → length rs < 256 → good_record s r ≡ true → free rs (area r) ≡ true → binding r.owner rs ≡ None
     → Fine s (rs ++ (r ∷ []))
 unfolding may_stand
 last-fine s rs r fine room g f b = record {
@@ -250,7 +249,7 @@ module _ (s : Settings) (now : Moment) (q : Asked) (rs : List Record) (good : Go
     together = extend-together s q.who now s.valid rs fine.together;
   }
 
-  bind-fine : (hint : Option Prefix) (p : Prefix) → binding q.who rs ≡ none → choose s rs hint ≡ some p
+  bind-fine : (hint : Option Prefix) (p : Prefix) → binding q.who rs ≡ None → choose s rs hint ≡ Some p
       → Fine s (bind q.who (lease_for s q.asks p) (plus now s.valid) rs)
   bind-fine hint p b e =
       let c = choose-chosen s rs good.lengths hint e in
@@ -258,26 +257,26 @@ module _ (s : Settings) (now : Moment) (q : Asked) (rs : List Record) (good : Go
 
   asked-fine : (f : Option Record) (c : Option Prefix) → binding q.who rs ≡ f → choose s rs (hint_of q.listed) ≡ c
       → Fine s (serve_request s now q rs f c).records
-  asked-fine (some r) c b e = extend-fine
-  asked-fine none (some p) b e = bind-fine (hint_of q.listed) p b e
-  asked-fine none none b e = fine
+  asked-fine (Some r) c b e = extend-fine
+  asked-fine None (Some p) b e = bind-fine (hint_of q.listed) p b e
+  asked-fine None None b e = fine
 
   renew-fine : (f : Option Record) → Fine s (serve_renew s now q rs f).records
-  renew-fine (some r) = extend-fine
-  renew-fine none = fine
+  renew-fine (Some r) = extend-fine
+  renew-fine None = fine
 
   rebind-fine : (f : Option Record) → Fine s (serve_rebind s now q rs f).records
-  rebind-fine (some r) = extend-fine
-  rebind-fine none = fine
+  rebind-fine (Some r) = extend-fine
+  rebind-fine None = fine
 
   solicit-fine : (f : Option Record) (c : Option Prefix) → Fine s (serve_solicit s now q rs f c).records
-  solicit-fine (some r) c = fine
-  solicit-fine none (some p) = fine
-  solicit-fine none none = fine
+  solicit-fine (Some r) c = fine
+  solicit-fine None (Some p) = fine
+  solicit-fine None None = fine
 
   release-fine : (f : Option Record) → Fine s (serve_release s now q rs f).records
-  release-fine none = fine
-  release-fine (some r) = by (is_freed r q.listed)
+  release-fine None = fine
+  release-fine (Some r) = by (is_freed r q.listed)
     where
       by : (b : Bool) → Fine s (cond b (leaves (give_up (is_binding q.who) rs) success) (leaves rs no_binding)).records
       by true = give-up-fine s (is_binding q.who) rs fine

@@ -5,7 +5,7 @@
 use mathlib.Core.Path.{◌≡◌, refl, sym, ap, ◌∙◌}
 use mathlib.Core.Bool.{Bool, true, false, cond, not, ◌&&◌}
 use mathlib.Core.List.{List}
-use mathlib.Core.Option.{none, some}
+use Rattle.std.specs.Prelude.{None, Some}
 use Prim.Native.Nat.{ℕ, ◌+◌, ◌-◌, ◌≤◌}
 use native.Mathlib.Omega.{arith}
 use lib.Dec.{eqb, ltb}
@@ -73,7 +73,7 @@ alone-is l w m q h =
 
 -- ---------------------------------------------------------------- values
 
-except-some : (b : ℕ) (o : List ℕ) (t : Bool) {x : Prefix} → cond t none (some (prefix (num o) b)) ≡ some x → prefix (num o) b ≡ x
+except-some : (b : ℕ) (o : List ℕ) (t : Bool) {x : Prefix} → cond t None (Some (prefix (num o) b)) ≡ Some x → prefix (num o) b ≡ x
 except-some b o true h = let z : ◌≡◌ {A = ℕ} 0 1 = cc in absurd (omega arith)
 except-some b o false h = cc
 
@@ -82,7 +82,7 @@ pub exclude-read : (m : List ℕ) (p : Prefix) (b : ℕ) (o : List ℕ) → exce
 unfolding except_of
 exclude-read m p b o h =
     let e : length m - 4 - 1 ≡ length m - 5 = omega arith in
-    except-some b o (eqb b 0) (h ∙ ap (λ (n : ℕ). some (unpacked p (get_or m 4 0) (num_at m 5 n))) e)
+    except-some b o (eqb b 0) (h ∙ ap (λ (n : ℕ). Some (unpacked p (get_or m 4 0) (num_at m 5 n))) e)
 
 pub pd-read : (m : List ℕ) → 4 ≤ length m → {i a b n : ℕ} {f : Found} → i ≡ num_at m 4 4 → a ≡ num_at m 8 4 → b ≡ num_at m 12 4 → n ≡ count 26 (area_of m 16 (length m))
     → f ≡ nth 26 0 (area_of m 16 (length m)) → ◌≡◌ {A = PdHead} (record { iaid = i; t1 = a; t2 = b; prefixes = n; first = f }) (pd_head m (ia_at m (only m)))

@@ -1,9 +1,9 @@
 -- The law of one result, and that what a contract speaks of tells a result from every other.
 --   one-result, -beside    an equation of what a faithful view sees allows one result only; one with something said beside it
 --   lent-faithful, ..      the views that contracts take of a result
-use Rattle.std.specs.Prelude.{ℕ, ◌+◌, ◌≡◌, refl, Bool, true, false, cond, List, [], ◌⊎◌, eqb, length}
+use Rattle.std.specs.Prelude.{ℕ, ◌+◌, ◌≡◌, refl, Bool, true, false, cond, List, [], ◌⊎◌, eqb, length, None, Some}
 use Rattle.std.proofs.Common.{sym, ap, ◌∙◌, inl, inr, arith, eqb-true}
-use Rattle.std.proofs.Math.Option.{none, some, none-ne-some}
+use Rattle.std.proofs.lemmas.Option.{none-some}
 use Rattle.std.proofs.lemmas.Bool.{eqb-false}
 use Rattle.rules.specs.Words.{num, be}
 use Rattle.rules.specs.Refusals.{Res, refuse, done}
@@ -139,11 +139,11 @@ except-same : {a b : ℕ} {l k : List ℕ} → Sixteen l → Sixteen k → excep
 unfolding except_of
 except-same {a} {b} {l} {k} g h e = by (eqb a 0) (eqb b 0) refl refl e
   where
-    by : (t u : Bool) → eqb a 0 ≡ t → eqb b 0 ≡ u → cond t none (some (prefix (num l) a)) ≡ cond u none (some (prefix (num k) b))
+    by : (t u : Bool) → eqb a 0 ≡ t → eqb b 0 ≡ u → cond t None (Some (prefix (num l) a)) ≡ cond u None (Some (prefix (num k) b))
         → (a ≡ b) × ((a ≡ 0) ⊎ (l ≡ k))
     by true true p q c = let z = eqb-true a 0 p in (z ∙ sym (eqb-true b 0 q), inl z)
-    by true false p q c = absurd (none-ne-some _ c)
-    by false true p q c = absurd (none-ne-some _ (sym c))
+    by true false p q c = absurd (none-some _ c)
+    by false true p q c = absurd (none-some _ (sym c))
     by false false p q c = let v : prefix (num l) a ≡ prefix (num k) b = cc in (ap (λ x. x.length) v, inr (bytes_same g h (ap (λ x. x.bits) v)))
 
 listed_same : (ks : List ℕ) (x y : IaPrefix) → Arrays x → Arrays y → listed_of x ks ≡ listed_of y ks → SamePrefix x y

@@ -2,7 +2,7 @@
 use mathlib.Core.Path.{◌≡◌, refl, ap, sym, ◌∙◌}
 use mathlib.Core.Bool.{Bool, true, false, cond, not, ◌&&◌, ◌||◌}
 use mathlib.Core.List.{List, [], ◌∷◌, ◌++◌, map}
-use mathlib.Core.Option.{none, some}
+use Rattle.std.specs.Prelude.{None, Some}
 use Prim.Native.Nat.{ℕ, ◌+◌, ◌*◌, ◌^◌, ◌≤◌, ◌<◌}
 use native.Mathlib.Omega.{arith}
 use borrow.Author.Tests.{lt-ltb, le-ltb, le-leb, leb-true, ltb-true, ltb-false}
@@ -62,7 +62,7 @@ and-true false e = refl
 pub fits-sixteen : (q : List ℕ) (a : ℕ) → Sixteen q → leb a 128 ≡ fits (prefix (num q) a)
 fits-sixteen q a s = and-true (leb a 128) (lt-ltb (num q) (2 ^ 128) (sixteen-lt q s))
 
-lease-by : (p q : Prefix) (b : Bool) → fits p && (b || encodable p q) ≡ lease_encodable p (cond b none (some q))
+lease-by : (p q : Prefix) (b : Bool) → fits p && (b || encodable p q) ≡ lease_encodable p (cond b None (Some q))
 lease-by p q true = sym (and-true (fits p) refl)
 lease-by p q false = refl
 
@@ -72,7 +72,7 @@ unfolding listed_of lease_of except_of
 listed-encodes x h g =
     rw (lt-ltb x.preferred (2 ^ 32) h, lt-ltb x.valid (2 ^ 32) g)
     (lease-by (prefix (num x.bits) x.length) (prefix (num x.out) x.cut) (eqb x.cut 0)
-    ∙ and-true (lease_encodable (prefix (num x.bits) x.length) (cond (eqb x.cut 0) none (some (prefix (num x.out) x.cut)))) refl)
+    ∙ and-true (lease_encodable (prefix (num x.bits) x.length) (cond (eqb x.cut 0) None (Some (prefix (num x.out) x.cut)))) refl)
 
 pub encodes-lease : (x : IaPrefix) → listed_encodes (listed_of x []) ≡ true → lease_encodes x ≡ true
 unfolding listed_of

@@ -1,9 +1,8 @@
 -- Demand 3: every prefix that a router alive still counts as held is bound to it in the box's table, with the same excluded prefix,
 -- until at least the moment the router stops. So no two routers hold overlapping prefixes.
-use Rattle.std.specs.Prelude.{◌≡◌, refl, Bool, true, false, not, ◌⊎◌}
+use Rattle.std.specs.Prelude.{◌≡◌, refl, Bool, true, false, not, ◌⊎◌, Some}
 use Rattle.std.proofs.Common.{sym, ◌∙◌, ap, subst, inl, inr, arith}
 use mathlib.Core.List.{List, [], ◌∷◌, Memᴰ}
-use Rattle.std.proofs.Math.Option.{some}
 use Rattle.std.proofs.lemmas.Bool.{not-true, not-false}
 use Rattle.rules.specs.Words.{all, no_two}
 use Rattle.rules.specs.Refusals.{done}
@@ -72,7 +71,7 @@ may-stand : (ρ σ : Record) → may_stand ρ σ ≡ true → overlap (area ρ) 
 unfolding may_stand
 may-stand ρ σ e = not-true _ (both (not (overlap (area ρ) (area σ))) (not (same_identity ρ.owner σ.owner)) e).0
 
-bound-apart : (B : Box) → ((T : Table) → B ≡ some T → sound T ≡ true) → (i j : Identity) (g h : Hold) → (i ≡ j → ⊥) → Bound B i g → Bound B j h
+bound-apart : (B : Box) → ((T : Table) → B ≡ Some T → sound T ≡ true) → (i j : Identity) (g h : Hold) → (i ≡ j → ⊥) → Bound B i g → Bound B j h
     → overlap g.lease.prefix h.lease.prefix ≡ false
 bound-apart B f i j g h d b c =
     let w : c.table ≡ b.table = cc in

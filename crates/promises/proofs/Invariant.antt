@@ -1,7 +1,7 @@
 -- The invariant of every run, kept by each step, over what Readings says that a step tells.
-use Rattle.std.specs.Prelude.{ℕ, ◌+◌, ◌≤◌, ◌<◌, ◌%◌, ◌^◌, ◌≡◌, refl, Bool, true, false, cond, List, ◌∷◌, ◌⊎◌}
+use Rattle.std.specs.Prelude.{ℕ, ◌+◌, ◌≤◌, ◌<◌, ◌%◌, ◌^◌, ◌≡◌, refl, Bool, true, false, cond, List, ◌∷◌, ◌⊎◌, Option, None, Some}
 use Rattle.std.proofs.Common.{sym, ◌∙◌, ap, inl, inr, arith}
-use Rattle.std.proofs.Math.Option.{Option, none, some, none-ne-some}
+use Rattle.std.proofs.lemmas.Option.{none-some}
 use Rattle.rules.specs.Prefix.{Lease}
 use Rattle.rules.specs.Refusals.{done}
 use Rattle.rules.specs.Clock.{Moment, Lifetime, plus}
@@ -19,12 +19,12 @@ use Rattle.promises.specs.Readings.{Up, Down, Binds, Held, Open, Busy, holding, 
 -- ---------------------------------------------------------------- the routers alive
 
 -- a changed map has at an identity what was put there, or what stood there before
-pub put-cases : (A : Alive) (i : Identity) (o : Option Router) (j : Identity) (r : Router) → put A i o j ≡ some r
-    → ((j ≡ i) × (o ≡ some r)) ⊎ (A j ≡ some r)
+pub put-cases : (A : Alive) (i : Identity) (o : Option Router) (j : Identity) (r : Router) → put A i o j ≡ Some r
+    → ((j ≡ i) × (o ≡ Some r)) ⊎ (A j ≡ Some r)
 unfolding put
 put-cases A i o j r e = by (same_identity j i) refl e
   where
-    by : (b : Bool) → same_identity j i ≡ b → cond b o (A j) ≡ some r → ((j ≡ i) × (o ≡ some r)) ⊎ (A j ≡ some r)
+    by : (b : Bool) → same_identity j i ≡ b → cond b o (A j) ≡ Some r → ((j ≡ i) × (o ≡ Some r)) ⊎ (A j ≡ Some r)
     by true q e = inl (identity-true j i q, e)
     by false q e = inr e
 
@@ -34,20 +34,20 @@ put_same A i o = rw (identity-refl i)
 
 -- what holds of every router alive still does when one changes, or dies; the others are known to be others
 pub put_all : (P : Identity → Router → Type 0) (A : Alive) (i : Identity) {r' : Router} → P i r'
-    → ((j : Identity) (q : Router) → same_identity j i ≡ false → A j ≡ some q → P j q)
-    → (j : Identity) (q : Router) → put A i (some r') j ≡ some q → P j q
+    → ((j : Identity) (q : Router) → same_identity j i ≡ false → A j ≡ Some q → P j q)
+    → (j : Identity) (q : Router) → put A i (Some r') j ≡ Some q → P j q
 unfolding put
 put_all P A i {r'} o f j q p = by (same_identity j i) refl p
   where
-    by : (b : Bool) → same_identity j i ≡ b → cond b (some r') (A j) ≡ some q → P j q
+    by : (b : Bool) → same_identity j i ≡ b → cond b (Some r') (A j) ≡ Some q → P j q
     by true s e = let d : q ≡ r' = cc in let k = identity-true j i s in rw (k, d) o
     by false s e = f j q s e
 
-pub drop_all : (A : Alive) (i j : Identity) (q : Router) → put A i none j ≡ some q → A j ≡ some q
-drop_all A i j q p = by (put-cases A i none j q p)
+pub drop_all : (A : Alive) (i j : Identity) (q : Router) → put A i None j ≡ Some q → A j ≡ Some q
+drop_all A i j q p = by (put-cases A i None j q p)
   where
-    by : ((j ≡ i) × (none ≡ some q)) ⊎ (A j ≡ some q) → A j ≡ some q
-    by (inl h) = absurd (none-ne-some q h.1)
+    by : ((j ≡ i) × (None ≡ Some q)) ⊎ (A j ≡ Some q) → A j ≡ Some q
+    by (inl h) = absurd (none-some q h.1)
     by (inr h) = h
 
 others : {i j : Identity} → same_identity j i ≡ false → j ≡ i → ⊥
@@ -77,16 +77,16 @@ pub record Ok (n : Moment) (B : Box) (S : Sent) (i : Identity) (r : Router) : Ty
 
 -- the valid lifetime of the box that has started: it is the same in every Reply
 abbrev pub Lasts : Box → Lifetime → Type 0
-Lasts B v = (T : Table) × (B ≡ some T) × (v ≡ T.settings.valid)
+Lasts B v = (T : Table) × (B ≡ Some T) × (v ≡ T.settings.valid)
 
 -- of the world
 pub record Inv (n : Moment) (B : Box) (A : Alive) (S : Sent) : Type 0 where
-  pub sound-table : (T : Table) → B ≡ some T → sound T ≡ true
+  pub sound-table : (T : Table) → B ≡ Some T → sound T ≡ true
   pub soon : {s : ℕ} {m : List ℕ} → In s m S → s ≤ n
   pub echoed : {s x : ℕ} {m : List ℕ} {i : Identity} {c : Lease} {v : Lifetime} → In s m S → Down m i x c v
       → (s' : ℕ) × (m' : List ℕ) × (b : Bool) × In s' m' S × Up m' i x b × (s ≤ s' + 30)
   pub lasting : {s x : ℕ} {m : List ℕ} {i : Identity} {c : Lease} {v : Lifetime} → In s m S → Down m i x c v → Lasts B v
-  pub ok : (i : Identity) (r : Router) → A i ≡ some r → Ok n B S i r
+  pub ok : (i : Identity) (r : Router) → A i ≡ Some r → Ok n B S i r
 
 -- ---------------------------------------------------------------- one router, step by step
 
@@ -256,7 +256,7 @@ inv-says : {n : Moment} {B : Box} {A : Alive} {S : Sent} {r' : Router} {m : List
     → ((j : Identity) (x : ℕ) (b : Bool) → Up m j x b → (j ≡ i) × Aged r' n x)
     → ((j : Identity) (x : ℕ) → Up m j x true → n ≤ r'.freed)
     → ((j : Identity) (x : ℕ) (c : Lease) (v : Lifetime) → Down m j x c v → ⊥)
-    → Inv n B (put A i (some r')) ((n, m) ∷ S)
+    → Inv n B (put A i (Some r')) ((n, m) ∷ S)
 inv-says {A = A} i I o g f d = record {
   sound-table = I.sound-table;
   soon = soon-add I;
@@ -269,7 +269,7 @@ inv-says {A = A} i I o g f d = record {
 }
 
 inv-sends : {n : Moment} {B : Box} {A : Alive} {S : Sent} {r r' : Router} {m : List ℕ} (i : Identity)
-    → Inv n B A S → A i ≡ some r → Began r n r' m → Inv n B (put A i (some r')) ((n, m) ∷ S)
+    → Inv n B A S → A i ≡ Some r → Began r n r' m → Inv n B (put A i (Some r')) ((n, m) ∷ S)
 inv-sends i I e v = let o = I.ok _ _ e in
     inv-says i I (ok-began I o v)
     (λ j x b u. let h = v.reads j x b u in (h.0 ∙ o.named, latest (rw h.1 (sym v.next_up)))) v.frees v.silent
@@ -278,7 +278,7 @@ number-again : (x y : ℕ) → y < 2 ^ 24 → x ≡ number_before y → (x + 1) 
 number-again x y h e = omega arith
 
 inv-resends : {n : Moment} {B : Box} {A : Alive} {S : Sent} {r r' : Router} {m : List ℕ} (i : Identity)
-    → Inv n B A S → A i ≡ some r → Resent r n r' m → Inv n B (put A i (some r')) ((n, m) ∷ S)
+    → Inv n B A S → A i ≡ Some r → Resent r n r' m → Inv n B (put A i (Some r')) ((n, m) ∷ S)
 inv-resends i I e v = let o = I.ok _ _ e in
     inv-says i I (ok-moves o v.moves (λ c w h l. o.bound (v.holds c w h) l))
     (λ j x b u. let h = v.reads j x b u in
@@ -286,8 +286,8 @@ inv-resends i I e v = let o = I.ok _ _ e in
 
 -- a router changes, and sends nothing
 inv-moves : {n : Moment} {B : Box} {A : Alive} {S : Sent} {r r' : Router} (i : Identity)
-    → Inv n B A S → A i ≡ some r → Moves r n r'
-    → ((c : Lease) (e : Moment) → Held r' c e → n < e → Binds B i c e) → Inv n B (put A i (some r')) S
+    → Inv n B A S → A i ≡ Some r → Moves r n r'
+    → ((c : Lease) (e : Moment) → Held r' c e → n < e → Binds B i c e) → Inv n B (put A i (Some r')) S
 inv-moves {A = A} i I e v h = record {
   sound-table = I.sound-table;
   soon = I.soon;
@@ -306,7 +306,7 @@ taken {n} {s} {B} {S} {i} {r} {r'} {m} o v q l c e h g = go (v.holds c e h)
 
 -- the box serves a message
 inv-serves : {n s : ℕ} {T T' : Table} {A : Alive} {S : Sent} {m a : List ℕ}
-    → Inv n (some T) A S → In s m S → n ≤ s + 30 → Served T n m T' a → Inv n (some T') A ((n, a) ∷ S)
+    → Inv n (Some T) A S → In s m S → n ≤ s + 30 → Served T n m T' a → Inv n (Some T') A ((n, a) ∷ S)
 inv-serves {s = s} {T = T} {T' = T'} {m = m} I q l v = record {
   sound-table = λ t e. let w : T' ≡ t = cc in rw (← w) v.sound-after;
   soon = soon-add I;
@@ -333,23 +333,23 @@ pub record Steps : Type 0 where
   pub answers : (T T' : Table) (n : Moment) (m a : List ℕ) (room : ℕ) → box_handle T n m room ≡ done (T', a) → Served T n m T' a
 
 -- nothing is bound where no box has started
-unopened : {i : Identity} {c : Lease} {e : Moment} → Binds none i c e → ⊥
-unopened b = none-ne-some _ b.started
+unopened : {i : Identity} {c : Lease} {e : Moment} → Binds None i c e → ⊥
+unopened b = none-some _ b.started
 
 module _ (L : Steps) where
   pub invariant : {n : Moment} {B : Box} {A : Alive} {S : Sent} → Run n B A S → Inv n B A S
   invariant nobody = record {
-    sound-table = λ t e. absurd (none-ne-some t e);
+    sound-table = λ t e. absurd (none-some t e);
     soon = λ q. elim q [ ];
     echoed = λ q. elim q [ ];
     lasting = λ q. elim q [ ];
-    ok = λ i r e. absurd (none-ne-some r e);
+    ok = λ i r e. absurd (none-some r e);
   }
   invariant (opens {T = T} R s e) = let I = invariant R in record {
     sound-table = λ t d. let w : T ≡ t = cc in rw (← w) (L.box-starts s _ T e);
     soon = I.soon;
     echoed = I.echoed;
-    lasting = λ q d. absurd (none-ne-some _ (I.lasting q d).1);
+    lasting = λ q d. absurd (none-some _ (I.lasting q d).1);
     ok = λ i r p. ok-table (I.ok i r p) (λ b c d h g. absurd (unopened h));
   }
   invariant (tick R g) = let I = invariant R in record {

@@ -1,8 +1,7 @@
 -- What is played under the rules as they stand is a run of the world: so the promises hold of it.
-use Rattle.std.specs.Prelude.{ℕ, zero, suc, ◌+◌, ◌<◌, ◌≡◌, refl, Bool, true, false, cond, List, [], ◌∷◌, leb, ltb}
+use Rattle.std.specs.Prelude.{ℕ, zero, suc, ◌+◌, ◌<◌, ◌≡◌, refl, Bool, true, false, cond, List, [], ◌∷◌, leb, ltb, Option, None, Some, slice_get}
 use Rattle.std.proofs.Common.{sym, ◌∙◌, ap, subst, leb-true, ltb-true}
-use Rattle.std.proofs.Math.Option.{Option, none, some, none-ne-some}
-use Rattle.std.proofs.Math.ListN.{get_elem?}
+use Rattle.std.proofs.lemmas.Option.{none-some}
 use Rattle.rules.specs.Refusals.{Res, refuse, done, unless}
 use Rattle.rules.specs.Prefix.{Lease}
 use Rattle.rules.specs.Message.{read}
@@ -45,27 +44,27 @@ handle-stands t now m room =
 
 -- ---------------------------------------------------------------- what a step that is taken tells
 
-when-done : {A : Type 0} {f : A → World} {w : World} (x : Res A) → when_done f x ≡ some w → (y : A) × (x ≡ done y) × (f y ≡ w)
-when-done (refuse n) e = absurd (none-ne-some _ e)
+when-done : {A : Type 0} {f : A → World} {w : World} (x : Res A) → when_done f x ≡ Some w → (y : A) × (x ≡ done y) × (f y ≡ w)
+when-done (refuse n) e = absurd (none-some _ e)
 when-done (done y) e = (y, refl, cc)
 
-when-some : {A B : Type 0} {f : A → Option B} {b : B} (o : Option A) → when_some f o ≡ some b → (x : A) × (o ≡ some x) × (f x ≡ some b)
-when-some none e = absurd (none-ne-some _ e)
-when-some (some x) e = (x, refl, e)
+when-some : {A B : Type 0} {f : A → Option B} {b : B} (o : Option A) → when_some f o ≡ Some b → (x : A) × (o ≡ Some x) × (f x ≡ Some b)
+when-some None e = absurd (none-some _ e)
+when-some (Some x) e = (x, refl, e)
 
-when-none : {A B : Type 0} {w : Option B} {b : B} (o : Option A) → when_none w o ≡ some b → (o ≡ none) × (w ≡ some b)
-when-none none e = (refl, e)
-when-none (some x) e = absurd (none-ne-some _ e)
+when-none : {A B : Type 0} {w : Option B} {b : B} (o : Option A) → when_none w o ≡ Some b → (o ≡ None) × (w ≡ Some b)
+when-none None e = (refl, e)
+when-none (Some x) e = absurd (none-some _ e)
 
-when_true : {A : Type 0} {x : Option A} {y : A} (b : Bool) → cond b x none ≡ some y → (b ≡ true) × (x ≡ some y)
+when_true : {A : Type 0} {x : Option A} {y : A} (b : Bool) → cond b x None ≡ Some y → (b ≡ true) × (x ≡ Some y)
 when_true true e = (refl, e)
-when_true false e = absurd (none-ne-some _ e)
+when_true false e = absurd (none-some _ e)
 
-some_same : {A : Type 0} {x y : A} → some x ≡ some y → x ≡ y
+some_same : {A : Type 0} {x y : A} → Some x ≡ Some y → x ≡ y
 some_same e = cc
 
-copy-in : (S : Sent) (k : ℕ) (c : Moment × List ℕ) → get_elem? S k ≡ some c → In c.0 c.1 S
-copy-in [] k c e = absurd (none-ne-some _ e)
+copy-in : (S : Sent) (k : ℕ) (c : Moment × List ℕ) → slice_get S k ≡ Some c → In c.0 c.1 S
+copy-in [] k c e = absurd (none-some _ e)
 copy-in (a ∷ S) zero c e = last (ap (λ x. x.0) (sym (some_same e))) (ap (λ x. x.1) (sym (some_same e)))
 copy-in (a ∷ S) (suc k) c e = older (copy-in S k c e)
 
@@ -74,7 +73,7 @@ copy-in (a ∷ S) (suc k) c e = older (copy-in S k c e)
 abbrev pub Ran : World → Type 0
 Ran w = Run w.now w.box w.alive w.sent
 
-step_run : (w w' : World) (e : Event) → step standing w e ≡ some w' → Ran w → Ran w'
+step_run : (w w' : World) (e : Event) → step standing w e ≡ Some w' → Ran w → Ran w'
 unfolding step
 step_run w w' (tick n) e R = let a = when_true (leb w.now n) e in subst Ran (some_same a.1) (world.tick R (leb-true _ _ a.0))
 step_run w w' (opens s) e R =
@@ -115,7 +114,7 @@ step_run w w' (serves c) e R =
     (world.serves (subst (λ o. Run w.now o w.alive w.sent) a.1 R) 512 (copy-in w.sent _ b.0 b.1) (leb-true _ _ t.0)
     (sym (handle-stands a.0 w.now b.0.1 512) ∙ d.1))
 
-pub play-run : (es : List Event) (w w' : World) → play standing es w ≡ some w' → Ran w → Ran w'
+pub play-run : (es : List Event) (w w' : World) → play standing es w ≡ Some w' → Ran w → Ran w'
 unfolding play
 play-run [] w w' e R = subst Ran (some_same e) R
 play-run (e ∷ es) w w' h R = let a = when-some (step standing w e) h in play-run es a.0 w' a.2 (step_run w a.0 e a.1 R)
@@ -126,33 +125,33 @@ play-run (e ∷ es) w w' h R = let a = when-some (step standing w e) h in play-r
 record Holder (w : World) (i : Identity) (l : Lease) : Type 0 where
   router : Router
   hold : Hold
-  alive : w.alive i ≡ some router
-  held : router.held ≡ some hold
+  alive : w.alive i ≡ Some router
+  held : router.held ≡ Some hold
   lasts : w.now < hold.end
   same : hold.lease ≡ l
 
-holder : (w : World) (i : Identity) (l : Lease) → holding w.now (w.alive i) ≡ some l → Holder w i l
+holder : (w : World) (i : Identity) (l : Lease) → holding w.now (w.alive i) ≡ Some l → Holder w i l
 holder w i l e = router (w.alive i) refl e
   where
-    lasting : (r : Router) (h : Hold) → w.alive i ≡ some r → r.held ≡ some h → holds w.now (some h) ≡ some l → Holder w i l
+    lasting : (r : Router) (h : Hold) → w.alive i ≡ Some r → r.held ≡ Some h → holds w.now (Some h) ≡ Some l → Holder w i l
     lasting r h a k q = let t = when_true (ltb w.now h.end) q in
         record { router = r; hold = h; alive = a; held = k; lasts = ltb-true _ _ t.0; same = some_same t.1 }
 
-    kept : (r : Router) (o : Option Hold) → w.alive i ≡ some r → r.held ≡ o → holds w.now o ≡ some l → Holder w i l
-    kept r none a k q = absurd (none-ne-some _ q)
-    kept r (some h) a k q = lasting r h a k q
+    kept : (r : Router) (o : Option Hold) → w.alive i ≡ Some r → r.held ≡ o → holds w.now o ≡ Some l → Holder w i l
+    kept r None a k q = absurd (none-some _ q)
+    kept r (Some h) a k q = lasting r h a k q
 
-    router : (o : Option Router) → w.alive i ≡ o → holding w.now o ≡ some l → Holder w i l
-    router none a q = absurd (none-ne-some _ q)
-    router (some r) a q = kept r r.held a refl q
+    router : (o : Option Router) → w.alive i ≡ o → holding w.now o ≡ Some l → Holder w i l
+    router None a q = absurd (none-some _ q)
+    router (Some r) a q = kept r r.held a refl q
 
-pub never-twice : (es : List Event) (w : World) (i j : Identity) → (i ≡ j → ⊥) → play standing es empty ≡ some w → lent_twice i j w ≡ false
+pub never-twice : (es : List Event) (w : World) (i j : Identity) → (i ≡ j → ⊥) → play standing es empty ≡ Some w → lent_twice i j w ≡ false
 never-twice es w i j d e = by (holding w.now (w.alive i)) (holding w.now (w.alive j)) refl refl
   where
     by : (x y : Option Lease) → holding w.now (w.alive i) ≡ x → holding w.now (w.alive j) ≡ y → shared x y ≡ false
-    by none y p q = refl
-    by (some l) none p q = refl
-    by (some l) (some k) p q =
+    by None y p q = refl
+    by (Some l) None p q = refl
+    by (Some l) (Some k) p q =
         let a = holder w i l p in
         let b = holder w j k q in
         let R = play-run es empty w e world.nobody in

@@ -1,8 +1,8 @@
 -- A router's sound state stays sound: under a start, a sending, a resending, an abandoning and an acceptance.
-use Rattle.std.specs.Prelude.{◌≡◌, Bool, true, false, cond, not, ◌&&◌, ◌||◌, List, [], ◌∷◌, ℕ, ◌<◌, ◌^◌, leb, ltb, get_or}
+use Rattle.std.specs.Prelude.{◌≡◌, Bool, true, false, cond, not, ◌&&◌, ◌||◌, List, [], ◌∷◌, ℕ, ◌<◌, ◌^◌, leb, ltb, get_or, Option, None, Some}
 use Rattle.std.proofs.Math.Path.{refl}
 use Rattle.std.proofs.Common.{sym, ap, ◌∙◌, arith, pow_pos}
-use Rattle.std.proofs.Math.Option.{Option, none, some, none-ne-some}
+use Rattle.std.proofs.lemmas.Option.{none-some}
 use Rattle.std.proofs.lemmas.Bool.{not-false}
 use Rattle.rules.specs.Words.{all, same_bytes, any, first}
 use Rattle.rules.specs.Refusals.{done}
@@ -78,11 +78,11 @@ told-good k s l h =
     (one-stands good_duid l b.0 b.1).1
 
 -- the prefix that is taken
-first_taken : (l : List Listed) {y : Listed} → Every FineListed l → first takes l ≡ some y → FineListed y × (takes y ≡ true)
-first_taken [] f e = absurd (none-ne-some _ e)
+first_taken : (l : List Listed) {y : Listed} → Every FineListed l → first takes l ≡ Some y → FineListed y × (takes y ≡ true)
+first_taken [] f e = absurd (none-some _ e)
 first_taken (x ∷ l) {y} f e = by (takes x) refl e (first_taken l f.1)
   where
-    by : (b : Bool) → takes x ≡ b → cond b (some x) (first takes l) ≡ some y → (first takes l ≡ some y → FineListed y × (takes y ≡ true)) → FineListed y × (takes y ≡ true)
+    by : (b : Bool) → takes x ≡ b → cond b (Some x) (first takes l) ≡ Some y → (first takes l ≡ Some y → FineListed y × (takes y ≡ true)) → FineListed y × (takes y ≡ true)
     by true q e g = let w : x ≡ y = cc in (rw (← w) f.0, rw (← w) q)
     by false q e g = g e
 
@@ -93,7 +93,7 @@ until-good s n t y k l f h = by (ltb n (plus t y.valid))
     z : zero_after y.lease.prefix ≡ true
     z = (both (ltb 0 y.valid && leb y.preferred y.valid) (zero_after y.lease.prefix) h).1
 
-    by : (b : Bool) → good_hold s (cond b (some (record { lease = y.lease; end = plus t y.valid })) none) ≡ true
+    by : (b : Bool) → good_hold s (cond b (Some (record { lease = y.lease; end = plus t y.valid })) None) ≡ true
     by true = both-made (both-made k (both-made f.encodes z)) (plus-good t y.valid l (omega (arith, f.valid)))
     by false = refl
 
@@ -101,21 +101,21 @@ taken-good : (s : Option Duid) (n t : Moment) (l : List Listed) → known s ≡ 
 taken-good s n t l k h f = by (first takes l) refl
   where
     by : (o : Option Listed) → first takes l ≡ o → good_hold s (taken n t o) ≡ true
-    by none e = refl
-    by (some y) e = let g = first_taken l f e in until-good s n t y k h g.0 g.1
+    by None e = refl
+    by (Some y) e = let g = first_taken l f e in until-good s n t y k h g.0 g.1
 
 -- what is held has a server, whichever
-other-server : (s : Option Duid) (d : Duid) (h : Option Hold) → good_hold s h ≡ true → good_hold (some d) h ≡ true
-other-server s d none g = refl
-other-server s d (some h) g =
+other-server : (s : Option Duid) (d : Duid) (h : Option Hold) → good_hold s h ≡ true → good_hold (Some d) h ≡ true
+other-server s d None g = refl
+other-server s d (Some h) g =
     let a = both (known s && good_lease h.lease) (good_end h.end) g in
     both-made (both (known s) (good_lease h.lease) a.0).1 a.1
 
 -- an exchange that wants a server has it
-wanted-known : (s : Option Duid) (x : Exchange) → good_exchange s (some x) ≡ true → wants_server x.kind ≡ true → known s ≡ true
+wanted-known : (s : Option Duid) (x : Exchange) → good_exchange s (Some x) ≡ true → wants_server x.kind ≡ true → known s ≡ true
 wanted-known s x g w = rw w at (both (not (wants_server x.kind) || known s) (good_sent x.kind x.sent) g).0
 
-module _ (r : Router) (n : Moment) (m : List ℕ) (good : Sound r) (x : Exchange) (is : r.exchange ≡ some x) (a : Awaited r m x) where
+module _ (r : Router) (n : Moment) (m : List ℕ) (good : Sound r) (x : Exchange) (is : r.exchange ≡ Some x) (a : Awaited r m x) where
   abbrev d : Duid
   d = get_or (read m).servers 0 []
 
@@ -125,22 +125,22 @@ module _ (r : Router) (n : Moment) (m : List ℕ) (good : Sound r) (x : Exchange
   soon : r.began < 2 ^ 48
   soon = omega (arith, good.began-last, good.time)
 
-  has : good_exchange r.server (some x) ≡ true
+  has : good_exchange r.server (Some x) ≡ true
   has = rw is at good.exchange
 
-  server-after : (k : Kind) → good_server (server_after k r (some d)) ≡ true
+  server-after : (k : Kind) → good_server (server_after k r (Some d)) ≡ true
   server-after Solicit = told-good x.kind r.server (read m).servers a.told-by
   server-after Request = good.server
   server-after Renew = good.server
   server-after Rebind = told-good x.kind r.server (read m).servers a.told-by
   server-after Release = good.server
 
-  held_after_lem : (k : Kind) → x.kind ≡ k → good_hold (server_after k r (some d)) (held_after k r n (first takes (ia_of (read m)).listed)) ≡ true
+  held_after_lem : (k : Kind) → x.kind ≡ k → good_hold (server_after k r (Some d)) (held_after k r n (first takes (ia_of (read m)).listed)) ≡ true
   unfolding identity_rows
   held_after_lem Solicit q = other-server r.server d r.held good.held
   held_after_lem Request q = taken-good r.server n r.began (ia_of (read m)).listed (wanted-known r.server x has (ap wants_server q)) soon listed
   held_after_lem Renew q = taken-good r.server n r.began (ia_of (read m)).listed (wanted-known r.server x has (ap wants_server q)) soon listed
-  held_after_lem Rebind q = taken-good (some d) n r.began (ia_of (read m)).listed refl soon listed
+  held_after_lem Rebind q = taken-good (Some d) n r.began (ia_of (read m)).listed refl soon listed
   held_after_lem Release q = good.held
 
 pub received-sound : (r r' : Router) (n : Moment) (m : List ℕ) → router_receive r n m ≡ done r' → sound_router r' ≡ true

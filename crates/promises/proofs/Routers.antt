@@ -1,10 +1,10 @@
 -- What the router's operations tell: each meets what Readings says of its steps.
-use Rattle.std.specs.Prelude.{ℕ, ◌+◌, ◌≤◌, ◌<◌, ◌^◌, ◌≡◌, Bool, cond, not, ◌&&◌, ◌||◌, List, [], ◌∷◌, ◌⊎◌, eqb, leb, ltb, length, get_or}
+use Rattle.std.specs.Prelude.{ℕ, ◌+◌, ◌≤◌, ◌<◌, ◌^◌, ◌≡◌, Bool, cond, not, ◌&&◌, ◌||◌, List, [], ◌∷◌, ◌⊎◌, eqb, leb, ltb, length, get_or, Option, None, Some}
 use Rattle.std.proofs.Math.Path.{refl, sym, ap}
 use Rattle.std.proofs.Common.{◌∙◌, true≢false, inl, inr, eqb-true, leb-false}
 use Rattle.std.proofs.Math.Bool.{true, false}
 use Rattle.std.proofs.lemmas.Bool.{false≢true, not-false}
-use Rattle.std.proofs.Math.Option.{Option, none, some, none-ne-some}
+use Rattle.std.proofs.lemmas.Option.{none-some}
 use native.Mathlib.Omega.{arith}
 use Rattle.rules.specs.Words.{all, first, same_bytes}
 use Rattle.rules.specs.Refusals.{done, wrong_size}
@@ -63,16 +63,16 @@ starts i w n r e = one (Fresh i n) (unless-done (start_tests (good_asker i w) n)
   me = refl;
   started-now = refl;
   began-by = omega arith;
-  idle = λ b. elim b [ holding h ↦ none-ne-some _ h | asking o ↦ none-ne-some _ o.is ];
+  idle = λ b. elim b [ holding h ↦ none-some _ h | asking o ↦ none-some _ o.is ];
 })
 
 -- ---------------------------------------------------------------- a new exchange
 
-cond-none : {A : Type 0} {x : Option A} {y : A} (b : Bool) → cond b none x ≡ some y → (b ≡ false) × (x ≡ some y)
-cond-none true e = absurd (none-ne-some _ e)
+cond-none : {A : Type 0} {x : Option A} {y : A} (b : Bool) → cond b None x ≡ Some y → (b ≡ false) × (x ≡ Some y)
+cond-none true e = absurd (none-some _ e)
 cond-none false e = (refl, e)
 
-cond-empty : {A : Type 0} (x : Option A) (b : Bool) → b ≡ true → cond b none x ≡ none
+cond-empty : {A : Type 0} (x : Option A) (b : Bool) → b ≡ true → cond b None x ≡ None
 cond-empty x true e = refl
 cond-empty x false e = absurd (false≢true e)
 
@@ -128,7 +128,7 @@ begins k r r' n room m f e =
 
 -- ---------------------------------------------------------------- the open exchange again
 
-module _ (r : Router) (n : Moment) (x : Exchange) (is : r.exchange ≡ some x) (f : Fit r) (sound : sound_router r ≡ true) (late : r.last ≤ n) (time : n < 2 ^ 48) where
+module _ (r : Router) (n : Moment) (x : Exchange) (is : r.exchange ≡ Some x) (f : Fit r) (sound : sound_router r ≡ true) (late : r.last ≤ n) (time : n < 2 ^ 48) where
   again-opens : (b : Bool) → Open (again r n x) b → Open r b
   unfolding again
   again-opens b o = let w : x ≡ o.exchange = cc in record { exchange = x; is = is; frees = ap (λ y. is_release y.kind) w ∙ o.frees }
@@ -142,7 +142,7 @@ module _ (r : Router) (n : Moment) (x : Exchange) (is : r.exchange ≡ some x) (
   unfolding again
   again-busy false q (holding h) = (holding h, refl)
   again-busy false q (asking o) = (asking (again-opens false o), refl)
-  again-busy true q (holding h) = absurd (none-ne-some _ (sym (f.dropped (record { exchange = x; is = is; frees = q })) ∙ h))
+  again-busy true q (holding h) = absurd (none-some _ (sym (f.dropped (record { exchange = x; is = is; frees = q })) ∙ h))
   again-busy true q (asking o) = let p = again-opens false o in let w : x ≡ o.exchange = cc in absurd (true≢false (sym q ∙ ap (λ y. is_release y.kind) w ∙ o.frees))
 
   moved : (r.freed ≤ cond (is_release x.kind) n r.freed) × (cond (is_release x.kind) n r.freed ≤ n)
@@ -179,17 +179,17 @@ repeats r r' n room m f e =
 -- ---------------------------------------------------------------- the exchange closed
 
 -- a state with nothing open, whatever it then knows and holds
-shuts : (r : Router) (n : Moment) (s : Option Duid) (h : Option Hold) → Fit r → ((c : Lease) (e : Moment) → h ≡ some (hold c e) → Busy r) → Moves r n (closed r n s h)
+shuts : (r : Router) (n : Moment) (s : Option Duid) (h : Option Hold) → Fit r → ((c : Lease) (e : Moment) → h ≡ Some (hold c e) → Busy r) → Moves r n (closed r n s h)
 unfolding closed
 shuts r n s h f b = record {
-  fit = record { small = f.small; dropped = λ o. absurd (none-ne-some _ o.is) };
+  fit = record { small = f.small; dropped = λ o. absurd (none-some _ o.is) };
   me-same = refl;
   started-same = refl;
   began-same = refl;
   next-same = refl;
   freed-up = omega arith;
-  busy = λ y. elim y [ holding k ↦ (b _ _ k, refl) | asking o ↦ absurd (none-ne-some _ o.is) ];
-  opens = λ y o. absurd (none-ne-some _ o.is);
+  busy = λ y. elim y [ holding k ↦ (b _ _ k, refl) | asking o ↦ absurd (none-some _ o.is) ];
+  opens = λ y o. absurd (none-some _ o.is);
 }
 
 pub closes : (r r' : Router) (n : Moment) → Fit r → router_abandon r n ≡ done r' → Moves r n r' × ((c : Lease) (e : Moment) → Held r' c e → Held r c e)
@@ -209,7 +209,7 @@ pub record Awaited (r : Router) (m : List ℕ) (x : Exchange) : Type 0 where
   pub told-by : from_server x.kind r.server (read m).servers ≡ true
   pub ias : good_ias x.kind r.me.iaid (read m).ias ≡ true
 
-pub awaited-facts : (r : Router) (m : List ℕ) (x : Exchange) → awaited r m (read m) (some x) ≡ true → Awaited r m x
+pub awaited-facts : (r : Router) (m : List ℕ) (x : Exchange) → awaited r m (read m) (Some x) ≡ true → Awaited r m x
 unfolding awaited
 awaited-facts r m x e =
     let v = read m in
@@ -242,25 +242,25 @@ own-ia i (a ∷ b ∷ l) d e =
     absurd (omega arith)
 
 -- what is taken of a Reply
-taken_is : (n t : Moment) (o : Option Listed) (c : Lease) (e : Moment) → taken n t o ≡ some (hold c e)
-    → (x : Listed) × (o ≡ some x) × (x.lease ≡ c) × (e ≡ plus t x.valid)
-taken_is n t none c e h = absurd (none-ne-some _ h)
-taken_is n t (some x) c e h = by (ltb n (plus t x.valid)) h
+taken_is : (n t : Moment) (o : Option Listed) (c : Lease) (e : Moment) → taken n t o ≡ Some (hold c e)
+    → (x : Listed) × (o ≡ Some x) × (x.lease ≡ c) × (e ≡ plus t x.valid)
+taken_is n t None c e h = absurd (none-some _ h)
+taken_is n t (Some x) c e h = by (ltb n (plus t x.valid)) h
   where
-    by : (b : Bool) → cond b (some (hold x.lease (plus t x.valid))) none ≡ some (hold c e)
-        → (y : Listed) × (some x ≡ some y) × (y.lease ≡ c) × (e ≡ plus t y.valid)
+    by : (b : Bool) → cond b (Some (hold x.lease (plus t x.valid))) None ≡ Some (hold c e)
+        → (y : Listed) × (Some x ≡ Some y) × (y.lease ≡ c) × (e ≡ plus t y.valid)
     by true q =
         let w : hold x.lease (plus t x.valid) ≡ hold c e = cc in
         (x, refl, ap (λ k. k.lease) w, sym (ap (λ k. k.end) w))
-    by false q = absurd (none-ne-some _ q)
+    by false q = absurd (none-some _ q)
 
-module _ (r : Router) (n : Moment) (m : List ℕ) (x : Exchange) (is : r.exchange ≡ some x) (a : Awaited r m x) where
+module _ (r : Router) (n : Moment) (m : List ℕ) (x : Exchange) (is : r.exchange ≡ Some x) (a : Awaited r m x) where
   abbrev Taken : Lease → Moment → Type 0
   Taken c e = Held r c e ⊎ ((v : Lifetime) × Open r false × Down m r.me (number_before r.next) c v × (e ≡ plus r.began v))
 
   -- of a Reply to a Request, Renew or Rebind
   by-reply : is_release x.kind ≡ false → answer_type x.kind ≡ 7 → (c : Lease) (e : Moment)
-      → taken n r.began (first takes (ia_of (read m)).listed) ≡ some (hold c e) → Taken c e
+      → taken n r.began (first takes (ia_of (read m)).listed) ≡ Some (hold c e) → Taken c e
   by-reply q t c e h =
       let w = taken_is n r.began (first takes (ia_of (read m)).listed) c e h in
       let g : eqb (length (read m).ias) 1 && all (good_ia r.me.iaid) (read m).ias ≡ true = rw q at a.ias in
@@ -280,7 +280,7 @@ module _ (r : Router) (n : Moment) (m : List ℕ) (x : Exchange) (is : r.exchang
         w.3,
       )
 
-  held_after_lem : (k : Kind) → x.kind ≡ k → (c : Lease) (e : Moment) → held_after k r n (first takes (ia_of (read m)).listed) ≡ some (hold c e) → Taken c e
+  held_after_lem : (k : Kind) → x.kind ≡ k → (c : Lease) (e : Moment) → held_after k r n (first takes (ia_of (read m)).listed) ≡ Some (hold c e) → Taken c e
   held_after_lem Solicit q c e h = inl h
   held_after_lem Request q c e h = by-reply (ap is_release q) (ap answer_type q) c e h
   held_after_lem Renew q c e h = by-reply (ap is_release q) (ap answer_type q) c e h
@@ -300,8 +300,8 @@ module _ (r : Router) (n : Moment) (m : List ℕ) (x : Exchange) (is : r.exchang
 
 pub awaited-open : (r : Router) (m : List ℕ) (o : Option Exchange) → awaited r m (read m) o ≡ true → is_open o ≡ true
 unfolding awaited
-awaited-open r m none e = absurd (false≢true e)
-awaited-open r m (some x) e = refl
+awaited-open r m None e = absurd (false≢true e)
+awaited-open r m (Some x) e = refl
 
 pub accepts : (r r' : Router) (n : Moment) (m : List ℕ) → Fit r → router_receive r n m ≡ done r' → Got r n m r'
 unfolding router_receive

@@ -1,12 +1,12 @@
 -- What the box tells: a message that it serves meets what Readings says of it.
-use Rattle.std.specs.Prelude.{ℕ, ◌+◌, ◌≤◌, ◌<◌, ◌≡◌, Bool, cond, ◌⊎◌, eqb, get_or}
+use Rattle.std.specs.Prelude.{ℕ, ◌+◌, ◌≤◌, ◌<◌, ◌≡◌, Bool, cond, ◌⊎◌, eqb, get_or, Option, None, Some}
 use Rattle.std.proofs.Math.Path.{refl, sym, ap, subst}
 use Rattle.std.proofs.Common.{◌∙◌, true≢false, arith, lt-ltb}
 use Rattle.std.proofs.Math.Bool.{true, false, not}
 use mathlib.Core.List.Memᴰ
 use mathlib.Core.List.{List, [], ◌∷◌, map, Memᴰ}
 use Rattle.std.proofs.Math.Logic.{inl, inr}
-use Rattle.std.proofs.Math.Option.{Option, none, some, none-ne-some}
+use Rattle.std.proofs.lemmas.Option.{none-some}
 use Rattle.rules.specs.Words.{keep, first, cons_if}
 use Rattle.rules.specs.Refusals.{done}
 use Rattle.rules.specs.Prefix.{Prefix, Lease}
@@ -56,11 +56,11 @@ keep-mem f {ρ} (a ∷ l) g h = by (f a) refl (Memᴰ.cases_cons h) (keep-mem f 
 give-up-mem : (f : Record → Bool) {ρ : Record} (l : List Record) → f ρ ≡ false → Mem ρ l → Mem ρ (give_up f l)
 give-up-mem f l g h = rw (give-up f l) (keep-mem (λ r. not (f r)) l (ap not g) h)
 
-first-mem : (f : Record → Bool) {ρ : Record} (l : List Record) → first f l ≡ some ρ → Mem ρ l × (f ρ ≡ true)
-first-mem f {ρ} [] e = absurd (none-ne-some ρ e)
+first-mem : (f : Record → Bool) {ρ : Record} (l : List Record) → first f l ≡ Some ρ → Mem ρ l × (f ρ ≡ true)
+first-mem f {ρ} [] e = absurd (none-some ρ e)
 first-mem f {ρ} (a ∷ l) e = by (f a) refl e (first-mem f l)
   where
-    by : (b : Bool) → f a ≡ b → cond b (some a) (first f l) ≡ some ρ → (first f l ≡ some ρ → Mem ρ l × (f ρ ≡ true)) → Mem ρ (a ∷ l) × (f ρ ≡ true)
+    by : (b : Bool) → f a ≡ b → cond b (Some a) (first f l) ≡ Some ρ → (first f l ≡ Some ρ → Mem ρ l × (f ρ ≡ true)) → Mem ρ (a ∷ l) × (f ρ ≡ true)
     by true q e r = let w : a ≡ ρ = cc in (Memᴰ.head (sym w), rw (← w) q)
     by false q e r = let z = r e in (Memᴰ.tail z.0, z.1)
 
@@ -104,7 +104,7 @@ module _ (s : Settings) (now : Moment) (q : Asked) (rs : List Record) where
   says : (k : Kind) (n : ℕ) → Acts s now q rs k (leaves rs (say n))
   says k n = idle k (say n) (λ c xs e z. let w : ◌≡◌ {A = ℕ} 0 1 = cc in omega arith)
 
-  extends : (k : Kind) (r : Record) (zs : List Listed) → binding q.who rs ≡ some r → Acts s now q rs k (leaves (extend q.who now s.valid rs) (offer r.lease zs))
+  extends : (k : Kind) (r : Record) (zs : List Listed) → binding q.who rs ≡ Some r → Acts s now q rs k (leaves (extend q.who now s.valid rs) (offer r.lease zs))
   unfolding extend
   extends k r zs b = record {
     kept = λ ρ h z. (touched s q.who now s.valid ρ, map-mem (touched s q.who now s.valid) rs h, touched-later s q.who now s.valid ρ);
@@ -127,30 +127,30 @@ module _ (s : Settings) (now : Moment) (q : Asked) (rs : List Record) where
   }
 
   solicits : (f : Option Record) (c : Option Prefix) → Acts s now q rs Solicit (serve_solicit s now q rs f c)
-  solicits (some r) c = idle Solicit (offer r.lease []) (λ c xs e z. true≢false z)
-  solicits none (some p) = idle Solicit _ (λ c xs e z. true≢false z)
-  solicits none none = says Solicit 6
+  solicits (Some r) c = idle Solicit (offer r.lease []) (λ c xs e z. true≢false z)
+  solicits None (Some p) = idle Solicit _ (λ c xs e z. true≢false z)
+  solicits None None = says Solicit 6
 
   requests : (f : Option Record) (c : Option Prefix) → binding q.who rs ≡ f → Acts s now q rs Request (serve_request s now q rs f c)
-  requests (some r) c b = extends Request r [] b
-  requests none (some p) b = binds p
-  requests none none b = says Request 6
+  requests (Some r) c b = extends Request r [] b
+  requests None (Some p) b = binds p
+  requests None None b = says Request 6
 
   renews : (k : Kind) (f : Option Record) → binding q.who rs ≡ f → Acts s now q rs k (serve_renew s now q rs f)
-  renews k (some r) b = extends k r _ b
-  renews k none b = says k 3
+  renews k (Some r) b = extends k r _ b
+  renews k None b = says k 3
 
   rebinds : (f : Option Record) → binding q.who rs ≡ f → Acts s now q rs Rebind (serve_rebind s now q rs f)
-  rebinds (some r) b = extends Rebind r _ b
-  rebinds none b = by (gone s q.listed)
+  rebinds (Some r) b = extends Rebind r _ b
+  rebinds None b = by (gone s q.listed)
     where
       by : (b : Bool) → Acts s now q rs Rebind (leaves rs (cond b (return (map returned q.listed)) silence))
       by true = idle Rebind _ (λ c xs e z. let w : ◌≡◌ {A = ℕ} 0 1 = cc in omega arith)
       by false = idle Rebind _ (λ c xs e z. let w : ◌≡◌ {A = ℕ} 0 1 = cc in omega arith)
 
   releases : (f : Option Record) → Acts s now q rs Release (serve_release s now q rs f)
-  releases none = says Release 3
-  releases (some r) = by (is_freed r q.listed)
+  releases None = says Release 3
+  releases (Some r) = by (is_freed r q.listed)
     where
       by : (b : Bool) → Acts s now q rs Release (cond b (leaves (give_up (is_binding q.who) rs) success) (leaves rs no_binding))
       by true = record {
@@ -217,7 +217,7 @@ module _ {T : Table} {n : Moment} {m : List ℕ} {room : ℕ} (a : Accepted T n 
   unfolding answer_after answer_to
   given i x c w d =
       let e = answer-reads in
-      let t : first takes (get_or (saying T n v) 0 _).listed ≡ some d.listed = ap (λ u. first takes (ia_of u).listed) (sym e) ∙ d.taken in
+      let t : first takes (get_or (saying T n v) 0 _).listed ≡ Some d.listed = ap (λ u. first takes (ia_of u).listed) (sym e) ∙ d.taken in
       let z = offer-taken s (ia_of v).iaid (serving T n v).verdict _ refl (verdict-said a).1 d.listed t in
       let l : z.0 ≡ c = ap (λ u. u.lease) (sym z.3) ∙ d.lease in
       record {
@@ -236,7 +236,7 @@ module _ {T : Table} {n : Moment} {m : List ℕ} {room : ℕ} (a : Accepted T n 
       reply Rebind h = refl
       reply Release h = refl
 
-  keeps : (i : Identity) (c : Lease) (e : Moment) → Binds (some T) i c e → n < e → ((x : ℕ) → Up m i x true → ⊥) → Binds (some (table_after T n v)) i c e
+  keeps : (i : Identity) (c : Lease) (e : Moment) → Binds (Some T) i c e → n < e → ((x : ℕ) → Up m i x true → ⊥) → Binds (Some (table_after T n v)) i c e
   unfolding table_after
   keeps i c e b l f =
       let w : T ≡ b.table = cc in
@@ -261,7 +261,7 @@ module _ {T : Table} {n : Moment} {m : List ℕ} {room : ℕ} (a : Accepted T n 
           let o : q.who ≡ i = sym (identity-true _ _ p) ∙ b.owned in
           absurd (f v.number (subst (Up m i v.number) r (up o refl)))
 
-  gives : (i : Identity) (x : ℕ) (c : Lease) (w : Lifetime) (t : Moment) → Down out i x c w → t ≤ n → Binds (some (table_after T n v)) i c (plus t w)
+  gives : (i : Identity) (x : ℕ) (c : Lease) (w : Lifetime) (t : Moment) → Down out i x c w → t ≤ n → Binds (Some (table_after T n v)) i c (plus t w)
   unfolding table_after
   gives i x c w t d l =
       let g = given i x c w d in

@@ -1,10 +1,9 @@
 -- Demand 2's "exactly when": a new asker hears NoPrefixAvail exactly when no /60 in the pool is free or the table is full.
-use Rattle.std.specs.Prelude.{ℕ, ◌≤◌, ◌≡◌, Bool, true, false, List, ◌⊎◌, ◌↔◌}
+use Rattle.std.specs.Prelude.{ℕ, ◌≤◌, ◌≡◌, Bool, true, false, List, ◌⊎◌, ◌↔◌, Option, None, Some}
 use Rattle.std.proofs.Math.Path.{refl, ap}
 use Rattle.std.proofs.Common.{sym, ◌∙◌, subst}
 use Rattle.std.proofs.lemmas.Bool.{false≢true}
 use Rattle.std.proofs.Math.Logic.{inl, inr}
-use Rattle.std.proofs.Math.Option.{Option, none, some}
 use Rattle.std.proofs.Math.ListN.{length}
 use Rattle.rules.specs.Prefix.{Prefix, prefix, zero_after, inside}
 use Rattle.rules.specs.Message.{Message, read, print}
@@ -26,30 +25,30 @@ use Rattle.promises.specs.Boxes.{answer-reads}
 
 -- a choice that is none
 abbrev is_none : Option Prefix → Bool
-is_none none = true
-is_none (some p) = false
+is_none None = true
+is_none (Some p) = false
 
-none_is : (c : Option Prefix) → is_none c ≡ true → c ≡ none
-none_is none e = refl
-none_is (some p) e = absurd (false≢true e)
+none_is : (c : Option Prefix) → is_none c ≡ true → c ≡ None
+none_is None e = refl
+none_is (Some p) e = absurd (false≢true e)
 
 -- the IA_PD of a new asker says NoPrefixAvail exactly where nothing is chosen
 abbrev said : Settings → ℕ → Verdict → Message → Message
 said s i v m = answer_to s m (ia_for s i v)
 
 solicit-says : (s : Settings) (now : Moment) (q : Asked) (rs : List Record) (i : ℕ) (m : Message) (k : Kind) → kind_of m.kind ≡ k → is_release k ≡ false
-    → (c : Option Prefix) → no_prefix (said s i (serve_solicit s now q rs none c).verdict m) ≡ is_none c
+    → (c : Option Prefix) → no_prefix (said s i (serve_solicit s now q rs None c).verdict m) ≡ is_none c
 unfolding answer_to
-solicit-says s now q rs i m k e r none = rw (e, r)
-solicit-says s now q rs i m k e r (some p) = rw (e, r)
+solicit-says s now q rs i m k e r None = rw (e, r)
+solicit-says s now q rs i m k e r (Some p) = rw (e, r)
 
 request-says : (s : Settings) (now : Moment) (q : Asked) (rs : List Record) (i : ℕ) (m : Message) (k : Kind) → kind_of m.kind ≡ k → is_release k ≡ false
-    → (c : Option Prefix) → no_prefix (said s i (serve_request s now q rs none c).verdict m) ≡ is_none c
+    → (c : Option Prefix) → no_prefix (said s i (serve_request s now q rs None c).verdict m) ≡ is_none c
 unfolding answer_to
-request-says s now q rs i m k e r none = rw (e, r)
-request-says s now q rs i m k e r (some p) = rw (e, r)
+request-says s now q rs i m k e r None = rw (e, r)
+request-says s now q rs i m k e r (Some p) = rw (e, r)
 
-module _ (T : Table) (now : Moment) (v : Message) (new : binding (asked_by v).who (current now T.records) ≡ none) where
+module _ (T : Table) (now : Moment) (v : Message) (new : binding (asked_by v).who (current now T.records) ≡ None) where
   abbrev q : Asked
   q = asked_by v
 
@@ -84,7 +83,7 @@ free-place T rs f =
     }
 
 module _ {T : Table} {now : Moment} {m : List ℕ} {room : ℕ} (a : Accepted T now m room) (k : Asks (kind_of (read m).kind))
-    (new : binding (asked_by (read m)).who (current now T.records) ≡ none) where
+    (new : binding (asked_by (read m)).who (current now T.records) ≡ None) where
   abbrev c : Option Prefix
   c = chosen T now (read m) new
 

@@ -4,9 +4,7 @@
 --   play, played         the steps in turn; the same from nothing, to be computed
 --   lending, house, neighbour   the box of the traces, and its two lines
 --   holding, lent_twice   what a house counts as held; two houses hold what overlaps
-use Rattle.std.specs.Prelude.{ℕ, ◌+◌, ◌-◌, ◌*◌, ◌^◌, Bool, false, cond, not, List, [], ◌∷◌, leb, length, get_or}
-use Rattle.std.proofs.Math.Option.{Option, none, some}
-use Rattle.std.proofs.Math.ListN.{get_elem?}
+use Rattle.std.specs.Prelude.{ℕ, ◌+◌, ◌-◌, ◌*◌, ◌^◌, Bool, false, cond, not, List, [], ◌∷◌, leb, length, get_or, Option, None, Some, slice_get}
 use Rattle.rules.specs.Words.{first, part, splice, num, be}
 use Rattle.rules.specs.Refusals.{Res, refuse, done, unless, bad_time, little_room}
 use Rattle.rules.specs.Prefix.{Prefix, prefix, Lease, overlap, inside, next_place, last64, packed, exclude_bytes, encodable, content_ok, unpacked}
@@ -60,7 +58,7 @@ began_at b r = record {
 
 abbrev pub accept_by : Premises → Router → Moment → Message → Kind → Router
 accept_by p r now v k =
-    closed r now (server_after k r (some (get_or v.servers 0 [])))
+    closed r now (server_after k r (Some (get_or v.servers 0 [])))
     (held_after k (began_at (p.since r now) r) now (first takes (ia_of v).listed))
 
 unfoldable pub receive_by : Premises → Router → Moment → List ℕ → Res Router
@@ -94,7 +92,7 @@ pub record World : Type 0 where
   pub sent : Sent
 
 abbrev pub empty : World
-empty = record { now = 0; box = none; alive = λ i. none; sent = [] }
+empty = record { now = 0; box = None; alive = λ i. None; sent = [] }
 
 -- a router's or the box's step with a message names it by its place in the order of sending, from 0
 pub data Event : Type 0 where
@@ -109,40 +107,40 @@ pub data Event : Type 0 where
   serves : ℕ → Event
 
 abbrev pub copy : ℕ → Sent → Option (Moment × List ℕ)
-copy k S = get_elem? S (length S - (k + 1))
+copy k S = slice_get S (length S - (k + 1))
 
 abbrev pub when_done : {A : Type 0} → (A → World) → Res A → Option World
-when_done f (refuse n) = none
-when_done f (done x) = some (f x)
+when_done f (refuse n) = None
+when_done f (done x) = Some (f x)
 
 abbrev pub when_some : {A B : Type 0} → (A → Option B) → Option A → Option B
-when_some f none = none
-when_some f (some x) = f x
+when_some f None = None
+when_some f (Some x) = f x
 
 abbrev pub when_none : {A B : Type 0} → Option B → Option A → Option B
-when_none w none = w
-when_none w (some x) = none
+when_none w None = w
+when_none w (Some x) = None
 
 -- the copy can still arrive
 abbrev pub arriving : Premises → Moment → (List ℕ → Option World) → Moment × List ℕ → Option World
-arriving p now f c = cond (leb now (c.0 + p.travel)) (f c.1) none
+arriving p now f c = cond (leb now (c.0 + p.travel)) (f c.1) None
 
 module _ (p : Premises) (w : World) where
   abbrev pub router_moved : Identity → Router → World
-  router_moved i r = record { now = w.now; box = w.box; alive = put w.alive i (some r); sent = w.sent }
+  router_moved i r = record { now = w.now; box = w.box; alive = put w.alive i (Some r); sent = w.sent }
 
   abbrev pub router_said : Identity → Router × List ℕ → World
-  router_said i x = record { now = w.now; box = w.box; alive = put w.alive i (some x.0); sent = (w.now, x.1) ∷ w.sent }
+  router_said i x = record { now = w.now; box = w.box; alive = put w.alive i (Some x.0); sent = (w.now, x.1) ∷ w.sent }
 
   abbrev pub box_said : Table × List ℕ → World
-  box_said x = record { now = w.now; box = some x.0; alive = w.alive; sent = (w.now, x.1) ∷ w.sent }
+  box_said x = record { now = w.now; box = Some x.0; alive = w.alive; sent = (w.now, x.1) ∷ w.sent }
 
   unfoldable pub step : Event → Option World
-  step (tick n) = cond (leb w.now n) (some (record { now = n; box = w.box; alive = w.alive; sent = w.sent })) none
+  step (tick n) = cond (leb w.now n) (Some (record { now = n; box = w.box; alive = w.alive; sent = w.sent })) None
   step (opens s) =
-      when_none (when_done (λ t. record { now = w.now; box = some t; alive = w.alive; sent = w.sent }) (box_start s w.now)) w.box
+      when_none (when_done (λ t. record { now = w.now; box = Some t; alive = w.alive; sent = w.sent }) (box_start s w.now)) w.box
   step (born i n) = when_none (when_done (router_moved i) (router_start i n w.now)) (w.alive i)
-  step (dies i) = some (record { now = w.now; box = w.box; alive = put w.alive i none; sent = w.sent })
+  step (dies i) = Some (record { now = w.now; box = w.box; alive = put w.alive i None; sent = w.sent })
   step (sends i k) = when_some (λ r. when_done (router_said i) (send_by p k r w.now 512)) (w.alive i)
   step (resends i) = when_some (λ r. when_done (router_said i) (router_resend r w.now 512)) (w.alive i)
   step (abandons i) = when_some (λ r. when_done (router_moved i) (router_abandon r w.now)) (w.alive i)
@@ -152,7 +150,7 @@ module _ (p : Premises) (w : World) where
       when_some (λ t. when_some (arriving p w.now (λ m. when_done box_said (handle_by p t w.now m 512))) (copy c w.sent)) w.box
 
 unfoldable pub play : Premises → List Event → World → Option World
-play p [] w = some w
+play p [] w = Some w
 play p (e ∷ es) w = when_some (λ x. play p es x) (step p w e)
 
 -- ---------------------------------------------------------------- the place of the traces
@@ -183,13 +181,13 @@ played p es = play p es empty
 -- ---------------------------------------------------------------- what is lent twice
 
 abbrev pub holding : Moment → Option Router → Option Lease
-holding now none = none
-holding now (some r) = holds now r.held
+holding now None = None
+holding now (Some r) = holds now r.held
 
 abbrev pub shared : Option Lease → Option Lease → Bool
-shared none y = false
-shared (some x) none = false
-shared (some x) (some y) = overlap x.prefix y.prefix
+shared None y = false
+shared (Some x) None = false
+shared (Some x) (Some y) = overlap x.prefix y.prefix
 
 -- both houses count as held what overlaps
 abbrev pub lent_twice : Identity → Identity → World → Bool

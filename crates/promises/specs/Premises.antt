@@ -1,8 +1,7 @@
 -- The premises are needed: with one of them changed, and all else as it stands, some steps lead to one prefix in two houses. Each trace
 -- is played twice: with the change it ends with a prefix lent twice, and as the rules stand it doesn't.
-use Rattle.std.specs.Prelude.{ℕ, zero, suc, ◌+◌, ◌-◌, ◌^◌, ◌≤◌, ◌≡◌, refl, Bool, true, false, cond, not, ◌&&◌, ◌||◌, List, [], ◌∷◌, ◌++◌, leb, ltb, T}
+use Rattle.std.specs.Prelude.{ℕ, zero, suc, ◌+◌, ◌-◌, ◌^◌, ◌≤◌, ◌≡◌, refl, Bool, true, false, cond, not, ◌&&◌, ◌||◌, List, [], ◌∷◌, ◌++◌, leb, ltb, T, Option, None, Some}
 use Rattle.std.proofs.Common.{sym, arith, ltb-false}
-use Rattle.std.proofs.Math.Option.{Option, none, some}
 use Rattle.rules.specs.Words.{all, first}
 use Rattle.rules.specs.Prefix.{Prefix, prefix, same_prefix, inside}
 use Rattle.rules.specs.Clock.{Moment}
@@ -50,11 +49,11 @@ abbrev same_only : Prefix → Record → Bool
 same_only p r = same_prefix (area r) p
 
 unfoldable walk_same : ℕ → Settings → List Record → ℕ → ℕ → Option ℕ
-walk_same zero s rs a x = none
-walk_same (suc k) s rs a x = cond (inside (prefix x a) s.pool) (tried (λ y. walk_same k s rs a y) a x (first (same_only (prefix x a)) rs)) none
+walk_same zero s rs a x = None
+walk_same (suc k) s rs a x = cond (inside (prefix x a) s.pool) (tried (λ y. walk_same k s rs a y) a x (first (same_only (prefix x a)) rs)) None
 
 unfoldable shortest_same : ℕ → Settings → List Record → ℕ → Option Prefix
-shortest_same zero s rs a = none
+shortest_same zero s rs a = None
 shortest_same (suc k) s rs a =
     or_longer (λ b. shortest_same k s rs b) a (walk_same (2 ^ (a - s.pool.length)) s rs a s.pool.bits)
 
@@ -113,8 +112,8 @@ data Change : Type 0 where
   needs : Premises → List Event → Change
 
 twice : Option World → Bool
-twice none = false
-twice (some w) = lent_twice house neighbour w
+twice None = false
+twice (Some w) = lent_twice house neighbour w
 
 is_needed : Change → Bool
 is_needed (needs p es) = twice (played p es) && not (twice (played standing es))

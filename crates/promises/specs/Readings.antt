@@ -2,8 +2,7 @@
 --   Up, Down          how the box reads a message, and how a router reads a Reply
 --   Held, Open, Busy  what a router holds, its open exchange, and whether it holds or may come to hold
 --   Began, Resent, Moves, Got, Fresh, Served    what a step that isn't refused tells, read backwards from what it left
-use Rattle.std.specs.Prelude.{ℕ, ◌+◌, ◌≤◌, ◌<◌, ◌^◌, ◌≡◌, Bool, true, false, List, ◌⊎◌}
-use Rattle.std.proofs.Math.Option.{none, some}
+use Rattle.std.specs.Prelude.{ℕ, ◌+◌, ◌≤◌, ◌<◌, ◌^◌, ◌≡◌, Bool, true, false, List, ◌⊎◌, None, Some}
 use Rattle.rules.specs.Words.{first}
 use Rattle.rules.specs.Prefix.{Lease}
 use Rattle.rules.specs.Message.{Listed, read}
@@ -31,7 +30,7 @@ pub record Down (m : List ℕ) (i : Identity) (x : ℕ) (c : Lease) (v : Lifetim
   pub iaid : (ia_of (read m)).iaid ≡ i.iaid
   pub number : (read m).number ≡ x
   pub listed : Listed
-  pub taken : first takes (ia_of (read m)).listed ≡ some listed
+  pub taken : first takes (ia_of (read m)).listed ≡ Some listed
   pub lease : listed.lease ≡ c
   pub valid : listed.valid ≡ v
 
@@ -43,12 +42,12 @@ abbrev pub Binds : Box → Identity → Lease → Moment → Type 0
 Binds B i c e = Bound B i (hold c e)
 
 abbrev pub Held : Router → Lease → Moment → Type 0
-Held r c e = r.held ≡ some (hold c e)
+Held r c e = r.held ≡ Some (hold c e)
 
 -- an open exchange; b says whether a Release
 pub record Open (r : Router) (b : Bool) : Type 0 where
   pub exchange : Exchange
-  pub is : r.exchange ≡ some exchange
+  pub is : r.exchange ≡ Some exchange
   pub frees : is_release exchange.kind ≡ b
 
 -- it holds a prefix, or may come to hold one by the open exchange
@@ -59,7 +58,7 @@ pub data Busy (r : Router) : Type 0 where
 -- what every state has that a run reaches, besides being sound
 pub record Fit (r : Router) : Type 0 where
   pub small : r.next < 2 ^ 24
-  pub dropped : Open r true → r.held ≡ none
+  pub dropped : Open r true → r.held ≡ None
 
 -- ---------------------------------------------------------------- the steps of a router
 
@@ -120,8 +119,8 @@ pub record Fresh (i : Identity) (n : Moment) (r : Router) : Type 0 where
 pub record Served (T : Table) (n : Moment) (m : List ℕ) (T' : Table) (a : List ℕ) : Type 0 where
   pub sound-after : sound T' ≡ true
   pub settings-same : T'.settings ≡ T.settings
-  pub keeps : (i : Identity) (c : Lease) (e : Moment) → Binds (some T) i c e → n < e → ((x : ℕ) → Up m i x true → ⊥) → Binds (some T') i c e
-  pub gives : (i : Identity) (x : ℕ) (c : Lease) (v : Lifetime) (t : Moment) → Down a i x c v → t ≤ n → Binds (some T') i c (plus t v)
+  pub keeps : (i : Identity) (c : Lease) (e : Moment) → Binds (Some T) i c e → n < e → ((x : ℕ) → Up m i x true → ⊥) → Binds (Some T') i c e
+  pub gives : (i : Identity) (x : ℕ) (c : Lease) (v : Lifetime) (t : Moment) → Down a i x c v → t ≤ n → Binds (Some T') i c (plus t v)
   pub echoes : (i : Identity) (x : ℕ) (c : Lease) (v : Lifetime) → Down a i x c v → (b : Bool) × Up m i x b
   pub lasting : (i : Identity) (x : ℕ) (c : Lease) (v : Lifetime) → Down a i x c v → v ≡ T.settings.valid
   pub mute : (i : Identity) (x : ℕ) (b : Bool) → Up a i x b → ⊥

@@ -2,7 +2,7 @@
 use mathlib.Core.Path.{◌≡◌, refl, sym, ap, ◌∙◌}
 use mathlib.Core.Bool.{Bool, true, false, cond, not, ◌&&◌, ◌||◌}
 use mathlib.Core.List.{List, [], ◌∷◌, map}
-use mathlib.Core.Option.{Option, none, some}
+use Rattle.std.specs.Prelude.{Option, None, Some}
 use Prim.Native.Nat.{ℕ, suc, ◌+◌, ◌-◌, ◌*◌, ◌^◌, ◌≤◌, ◌<◌}
 use native.Mathlib.Omega.{arith}
 use native.Mathlib.Nat.{add-sub_cancel_left}
@@ -113,8 +113,8 @@ first-at f (x ∷ l) {p} {s} {n} h = by (f x) h (first-at f l)
 
 -- what was found, as it is read
 abbrev taken_as : List ℕ → Found → Option Listed
-taken_as m (At p s n) = some (listed_at m (At p s n))
-taken_as m Nothing = none
+taken_as m (At p s n) = Some (listed_at m (At p s n))
+taken_as m Nothing = None
 
 first-as : (m : List ℕ) (l : List Found) → first takes (map (listed_at m) l) ≡ taken_as m (first_found (λ f. takes (listed_at m f)) l)
 unfolding listed_at
@@ -122,7 +122,7 @@ first-as m [] = refl
 first-as m (x ∷ l) = by x (takes (listed_at m x)) refl (first-as m l)
   where
     by : (x : Found) (b : Bool) → takes (listed_at m x) ≡ b → first takes (map (listed_at m) l) ≡ taken_as m (first_found (λ f. takes (listed_at m f)) l)
-        → cond b (some (listed_at m x)) (first takes (map (listed_at m) l)) ≡ taken_as m (cond b x (first_found (λ f. takes (listed_at m f)) l))
+        → cond b (Some (listed_at m x)) (first takes (map (listed_at m) l)) ≡ taken_as m (cond b x (first_found (λ f. takes (listed_at m f)) l))
     by x false q ih = ih
     by (At p s n) true q ih = refl
     by Nothing true q ih = absurd (false-true q)
@@ -137,7 +137,7 @@ encodes-small x h = by (eqb x.cut 0) refl h
     short : fits (prefix (num x.bits) x.length) ≡ true → x.length ≤ 128
     short f = leb-true x.length 128 (both (leb x.length 128) (ltb (num x.bits) (2 ^ 128)) f).0
 
-    by : (t : Bool) → eqb x.cut 0 ≡ t → lease_encodable (prefix (num x.bits) x.length) (cond t none (some (prefix (num x.out) x.cut))) ≡ true
+    by : (t : Bool) → eqb x.cut 0 ≡ t → lease_encodable (prefix (num x.bits) x.length) (cond t None (Some (prefix (num x.out) x.cut))) ≡ true
         → (x.length ≤ 128) × (x.cut ≤ 128)
     by true e h = let z = eqb-true x.cut 0 e in (short h, omega arith)
     by false e h =
@@ -152,7 +152,7 @@ module _ (x : IaPrefix) (began now : ℕ) {e : ℕ} {a : Bool} (ee : e ≡ plus 
   pub hold-none : not a ≡ true → replicate 43 0 ≡ held_bytes (held_until now (lease_of x) (plus began x.valid))
   hold-none h = rw (← ee, ← ea, not-true a h)
 
-  pub hold-some : {r : List ℕ} → not a ≡ false → r ≡ held_bytes (some (hold_given (num x.bits) x.length (num x.out) x.cut e))
+  pub hold-some : {r : List ℕ} → not a ≡ false → r ≡ held_bytes (Some (hold_given (num x.bits) x.length (num x.out) x.cut e))
       → r ≡ held_bytes (held_until now (lease_of x) (plus began x.valid))
   unfolding lease_of except_of
   hold-some h q = rw (← ee, ← ea, not-false a h) q
@@ -181,8 +181,8 @@ module _ (m : List ℕ) (s n began now : ℕ) where
       → r ≡ held_bytes (held_until now (lease_of x) (plus began x.valid)) → r ≡ held_bytes gives
   unfolding listed_of
   taken-some {p} {t} {l} x e q g =
-      let y : some (listed_of x (listed_at m (At 0 t l)).statuses) ≡ first takes (ia_at m (At 0 s n)).listed =
-      ap some (q ∙ sym (listed-place m p t l)) ∙ sym (first_taken ∙ ap (taken_as m) e) in
+      let y : Some (listed_of x (listed_at m (At 0 t l)).statuses) ≡ first takes (ia_at m (At 0 s n)).listed =
+      ap Some (q ∙ sym (listed-place m p t l)) ∙ sym (first_taken ∙ ap (taken_as m) e) in
       g ∙ ap (λ o. held_bytes (taken now began o)) y
 
   pub taken_none : taken_in m s n ≡ Nothing → replicate 43 0 ≡ held_bytes gives
@@ -297,18 +297,18 @@ module _ {b m : List ℕ} {k : ℕ} (a : Accepted b m k) where
       by true = sized.1
       by false = omega arith
 
-  given_is : server_given (router_of b).server (server_told k m) ≡ server_after (kind_of k) (router_of b) (some d)
+  given_is : server_given (router_of b).server (server_told k m) ≡ server_after (kind_of k) (router_of b) (Some d)
   given_is =
       ap (server_given (router_of b).server) told_is ∙ by (eqb k 1 || eqb k 6)
-      ∙ sym (server-type (kind_of k) (router_of b) (some d) ∙ ap (λ j. cond (eqb j 1 || eqb j 6) (some d) (router_of b).server) (sym (type-is a)))
+      ∙ sym (server-type (kind_of k) (router_of b) (Some d) ∙ ap (λ j. cond (eqb j 1 || eqb j 6) (Some d) (router_of b).server) (sym (type-is a)))
     where
-      by : (t : Bool) → server_given (router_of b).server (cond t d []) ≡ cond t (some d) (router_of b).server
+      by : (t : Bool) → server_given (router_of b).server (cond t d []) ≡ cond t (Some d) (router_of b).server
       by true = rw (ne_eqb (length d) 0 (λ q. omega (arith, sized.0)))
       by false = refl
 
   open-kind : (open_of (router_of b).exchange).kind ≡ kind_of k
   open-kind =
-      let o : (router_of b).exchange ≡ some (open_as b k) = exchange-is b a.kind ∙ rw (ne_eqb k 0 (facts a).pending) in
+      let o : (router_of b).exchange ≡ Some (open_as b k) = exchange-is b a.kind ∙ rw (ne_eqb k 0 (facts a).pending) in
       ap (λ o. (open_of o).kind) o
 
   -- what is written is what the acceptance leaves

@@ -2,7 +2,7 @@
 use mathlib.Core.Path.{◌≡◌, refl, sym, ap, ◌∙◌}
 use mathlib.Core.Bool.{Bool, true, false, cond, not, ◌&&◌, ◌||◌}
 use mathlib.Core.List.{List, [], ◌∷◌, ◌++◌}
-use mathlib.Core.Option.{none, some}
+use Rattle.std.specs.Prelude.{None, Some}
 use Prim.Native.Nat.{ℕ, ◌*◌, ◌≤◌, ◌<◌, ◌^◌}
 use native.Mathlib.Omega.{arith}
 use borrow.Author.Tests.{not-false, ltb-false, leb-true, leb-false, le-leb, lt-leb, lt-ltb, le-ltb}
@@ -64,7 +64,7 @@ module _ (b d : List ℕ) (iaid wanted now : ℕ) (li : iaid < 2 ^ 32) where
 -- ---------------------------------------------------------------- the new state with its message
 
 -- s is the state, x its open exchange, c its bytes
-module _ (s : Router) (g : sound_router s ≡ true) (x : Exchange) (ex : s.exchange ≡ some x) {c : List ℕ} (e : c ≡ router_bytes s) where
+module _ (s : Router) (g : sound_router s ≡ true) (x : Exchange) (ex : s.exchange ≡ Some x) {c : List ℕ} (e : c ≡ router_bytes s) where
   read_is : router_of c ≡ s
   read_is = ap router_of e ∙ router-round s g
 
@@ -111,7 +111,7 @@ module _ (k : Kind) (b : List ℕ) (now : ℕ) (out : List ℕ) {n : ℕ} (e : n
         let t = in-time (router_of b).last now passed.1.0 in
         begun-sound (router_of b) now (router-sound-bytes b sent-sound).0 t.0 t.1 k (not-false _ passed.1.1.1.1.1.0)
 
-    began : (begun k (router_of b) now).exchange ≡ some (exchange_for k (router_of b) now)
+    began : (begun k (router_of b) now).exchange ≡ Some (exchange_for k (router_of b) now)
     unfolding begun
     began = refl
 
@@ -157,7 +157,7 @@ module _ (b : List ℕ) (now : ℕ) (out : List ℕ) {n : ℕ} (e : n ≡ by_res
         let t = in-time (router_of b).last now passed-again.1.0 in
         again-sound (router_of b) now (router-sound-bytes b resent-may.0).0 t.0 t.1 x (open-some (router_of b).exchange resent-may.1)
 
-    stays_open : (again (router_of b) now (exchange_in (router_of b))).exchange ≡ some (exchange_in (router_of b))
+    stays_open : (again (router_of b) now (exchange_in (router_of b))).exchange ≡ Some (exchange_in (router_of b))
     unfolding again
     stays_open = refl
 
@@ -232,7 +232,7 @@ module _ (b : List ℕ) (now : ℕ) (out : List ℕ) {n : ℕ} (e : n ≡ by_sta
       unfolding router_of hold_of
       text-none h = rw (← eh, end_read) (by (eqb has 0) h)
         where
-          by : (t : Bool) → t || leb end now ≡ true → hold_text now (cond t none (some (record { lease = lease_of (part 304 42 b); end = end }))) ≡ []
+          by : (t : Bool) → t || leb end now ≡ true → hold_text now (cond t None (Some (record { lease = lease_of (part 304 42 b); end = end }))) ≡ []
           by true h = refl
           by false h = rw (le-ltb now end (leb-true end now h))
 

@@ -2,7 +2,7 @@
 use mathlib.Core.Path.{◌≡◌, refl, sym, ap, ◌∙◌, subst}
 use mathlib.Core.Bool.{Bool, true, false, cond, not, ◌&&◌, ◌||◌, false≢true}
 use mathlib.Core.List.{List, [], ◌∷◌, map}
-use mathlib.Core.Option.{Option, none, some}
+use Rattle.std.specs.Prelude.{Option, None, Some}
 use Prim.Native.Nat.{ℕ, ◌+◌, ◌-◌, ◌%◌, ◌≤◌, ◌<◌}
 use native.Mathlib.Omega.{arith}
 use lib.Dec.{eqb, leb, lit≤, lit<}
@@ -39,13 +39,13 @@ use Rattle.requester.specs.Written.{Open, exchange_in, HeadOf, first_for, ia_ask
 
 -- a zero prefix with a length
 pub wanted-made : (b : List ℕ) {n : ℕ} → n ≡ num_at b 36 1
-    → listed_of (record { preferred = 0; valid = 0; length = n; bits = replicate 16 0; cut = 0; out = replicate 16 0 }) [] ≡ first_for (router_of b).wanted none
+    → listed_of (record { preferred = 0; valid = 0; length = n; bits = replicate 16 0; cut = 0; out = replicate 16 0 }) [] ≡ first_for (router_of b).wanted None
 unfolding listed_of lease_in except_of router_of
-wanted-made b e = rw (num-zeros 16) (ap (λ k. first_for k none) e)
+wanted-made b e = rw (num-zeros 16) (ap (λ k. first_for k None) e)
 
 -- one that is read from the state
 pub carried-made : (b : List ℕ) {p e : List ℕ} {a c : ℕ} → Bytes b → length b ≡ 384 → p ≡ part 347 16 b → a ≡ num_at b 363 1 → e ≡ part 364 16 b → c ≡ num_at b 380 1
-    → listed_of (record { preferred = 0; valid = 0; length = a; bits = p; cut = c; out = e }) [] ≡ first_for 0 (some (lease_of (part 347 34 b)))
+    → listed_of (record { preferred = 0; valid = 0; length = a; bits = p; cut = c; out = e }) [] ≡ first_for 0 (Some (lease_of (part 347 34 b)))
 unfolding listed_of lease_in except_of
 carried-made b y l ep ea ee ec = rw (ep, ea, ee, ec, lease-read b y 347 34 (omega arith) (omega arith))
 
@@ -100,33 +100,33 @@ module _ (b : List ℕ) (o : Open b) where
   unfolding router_of
   exchange-is = by (eqb n 0) o.has
     where
-      by : (z : Bool) → is_open (cond z none (some (exchange_of (kind_of n) l))) ≡ true → open_of (cond z none (some (exchange_of (kind_of n) l))) ≡ exchange_of (kind_of n) l
+      by : (z : Bool) → is_open (cond z None (Some (exchange_of (kind_of n) l))) ≡ true → open_of (cond z None (Some (exchange_of (kind_of n) l))) ≡ exchange_of (kind_of n) l
       by true h = absurd (false≢true h)
       by false h = refl
 
   module _ {k : ℕ} (ek : k ≡ num_at b 346 1) where
-    sent-none : eqb k 1 || eqb k 3 ≡ true → x.sent ≡ none
+    sent-none : eqb k 1 || eqb k 3 ≡ true → x.sent ≡ None
     sent-none h = ap (λ y. y.sent) exchange-is ∙ by (eqb n 1) (eqb n 3) (subst (λ j. eqb j 1 || eqb j 3 ≡ true) ek h)
       where
-        by : (f g : Bool) → f || g ≡ true → carries (cond f Solicit (cond g Request (cond (eqb n 5) Renew (cond (eqb n 6) Rebind Release)))) (some l) ≡ none
+        by : (f g : Bool) → f || g ≡ true → carries (cond f Solicit (cond g Request (cond (eqb n 5) Renew (cond (eqb n 6) Rebind Release)))) (Some l) ≡ None
         by true g h = refl
         by false true h = refl
         by false false h = absurd (false≢true h)
 
-    sent-some : eqb k 1 || eqb k 3 ≡ false → x.sent ≡ some (lease_of (part 347 34 b))
+    sent-some : eqb k 1 || eqb k 3 ≡ false → x.sent ≡ Some (lease_of (part 347 34 b))
     sent-some h =
         let q = neither (eqb n 1) (eqb n 3) (subst (λ j. eqb j 1 || eqb j 3 ≡ false) ek h) in
         ap (λ y. y.sent) exchange-is ∙ rw (q.0, q.1) (by (eqb n 5) (eqb n 6))
       where
-        by : (f g : Bool) → carries (cond f Renew (cond g Rebind Release)) (some l) ≡ some l
+        by : (f g : Bool) → carries (cond f Renew (cond g Rebind Release)) (Some l) ≡ Some l
         by true g = refl
         by false true = refl
         by false false = refl
 
-    pub first-wanted : {y : Listed} → eqb k 1 || eqb k 3 ≡ true → y ≡ first_for r.wanted none → y ≡ first_for r.wanted x.sent
+    pub first-wanted : {y : Listed} → eqb k 1 || eqb k 3 ≡ true → y ≡ first_for r.wanted None → y ≡ first_for r.wanted x.sent
     first-wanted h e = e ∙ ap (first_for r.wanted) (sym (sent-none h))
 
-    pub first-carried : {y : Listed} → eqb k 1 || eqb k 3 ≡ false → y ≡ first_for 0 (some (lease_of (part 347 34 b))) → y ≡ first_for r.wanted x.sent
+    pub first-carried : {y : Listed} → eqb k 1 || eqb k 3 ≡ false → y ≡ first_for 0 (Some (lease_of (part 347 34 b))) → y ≡ first_for r.wanted x.sent
     first-carried h e = e ∙ ap (first_for r.wanted) (sym (sent-some h))
 
     -- and how many stand in the message
@@ -159,18 +159,18 @@ module _ (b : List ℕ) (o : Open b) where
   five y = y ∷ y ∷ y ∷ y ∷ y ∷ []
 
   lists-by : (w : ℕ) (s : Option Lease) (y : IaPrefix) {c : ℕ} → listed_of y [] ≡ first_for w s → c ≡ length (lists w s) → first_listed c (five y) ≡ lists w s
-  lists-by w (some l) y e q = rw (q, e)
-  lists-by w none y {c} e q = by (eqb w 0) q
+  lists-by w (Some l) y e q = rw (q, e)
+  lists-by w None y {c} e q = by (eqb w 0) q
     where
-      by : (z : Bool) → c ≡ length (cond z [] (first_for w none ∷ [])) → first_listed c (five y) ≡ cond z [] (first_for w none ∷ [])
+      by : (z : Bool) → c ≡ length (cond z [] (first_for w None ∷ [])) → first_listed c (five y) ≡ cond z [] (first_for w None ∷ [])
       by true h = rw h
       by false h = rw (h, e)
 
   lists-few : (w : ℕ) (s : Option Lease) → length (lists w s) ≤ 1
-  lists-few w (some l) = lit≤ tt
-  lists-few w none = by (eqb w 0)
+  lists-few w (Some l) = lit≤ tt
+  lists-few w None = by (eqb w 0)
     where
-      by : (z : Bool) → length (cond z [] (first_for w none ∷ [])) ≤ 1
+      by : (z : Bool) → length (cond z [] (first_for w None ∷ [])) ≤ 1
       by true = lit≤ tt
       by false = lit≤ tt
 
@@ -200,7 +200,7 @@ module _ (b : List ℕ) (o : Open b) where
   server-made false m d h = refl
   server-made true m d h = by (eqb m 0) h
     where
-      by : (z : Bool) → known (cond z none (some d)) ≡ true → d ∷ [] ≡ servers_of (cond z none (some d))
+      by : (z : Bool) → known (cond z None (Some d)) ≡ true → d ∷ [] ≡ servers_of (cond z None (Some d))
       by true h = absurd (false≢true h)
       by false h = refl
 
@@ -209,7 +209,7 @@ module _ (b : List ℕ) (o : Open b) where
   unfolding router_of
   server-few y = by (eqb (num_at b 172 1) 0) refl good.server
     where
-      by : (z : Bool) → eqb (num_at b 172 1) 0 ≡ z → good_server (cond z none (some (duid_at b 172))) ≡ true → num_at b 172 1 ≤ 130
+      by : (z : Bool) → eqb (num_at b 172 1) 0 ≡ z → good_server (cond z None (Some (duid_at b 172))) ≡ true → num_at b 172 1 ≤ 130
       by true e g = omega (arith, eqb-true (num_at b 172 1) 0 e)
       by false e g =
           let d = duid_at b 172 in
@@ -217,7 +217,7 @@ module _ (b : List ℕ) (o : Open b) where
 
   server-known : not (wants_server x.kind) || known r.server ≡ true
   server-known =
-      let g : good_exchange r.server (some x) ≡ true = subst (λ y. good_exchange r.server y ≡ true) (open-some r.exchange o.has) good.exchange in
+      let g : good_exchange r.server (Some x) ≡ true = subst (λ y. good_exchange r.server y ≡ true) (open-some r.exchange o.has) good.exchange in
       (both (not (wants_server x.kind) || known r.server) (good_sent x.kind x.sent) g).0
 
   -- the bytes that code cuts

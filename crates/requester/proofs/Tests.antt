@@ -2,7 +2,7 @@
 use mathlib.Core.Path.{◌≡◌, refl, sym, ap, ◌∙◌}
 use mathlib.Core.Bool.{Bool, true, false, cond, not, ◌&&◌, ◌||◌}
 use mathlib.Core.List.{List, ◌++◌}
-use mathlib.Core.Option.{none, some}
+use Rattle.std.specs.Prelude.{None, Some}
 use Prim.Native.Nat.{ℕ, ◌+◌, ◌≤◌, ◌<◌, ◌^◌}
 use native.Mathlib.Omega.{arith}
 use borrow.Author.Tests.{eq-eqb, ne_eqb, lt-ltb, le-ltb}
@@ -27,7 +27,7 @@ pub open-read : (b : List ℕ) {k : ℕ} → k ≡ num_at b 346 1 → not (eqb k
 unfolding router_of
 open-read b e = rw e (by (eqb (num_at b 346 1) 0) _)
   where
-    by : (t : Bool) (x : Exchange) → not t ≡ is_open (cond t none (some x))
+    by : (t : Bool) (x : Exchange) → not t ≡ is_open (cond t None (Some x))
     by true x = refl
     by false x = refl
 
@@ -71,11 +71,11 @@ module _ (b : List ℕ) (now k : ℕ) where
       unfolding router_of hold_of
       held-read = rw (← en, num-part b 304 42 34 8 (omega arith), ← et) (by (eqb n 0))
         where
-          by : (z : Bool) → not z && ltb now t ≡ is_held (holds now (cond z none (some (record { lease = lease_of (part 304 42 b); end = t }))))
+          by : (z : Bool) → not z && ltb now t ≡ is_held (holds now (cond z None (Some (record { lease = lease_of (part 304 42 b); end = t }))))
           by true = refl
           by false = at (ltb now t)
             where
-              at : (u : Bool) → u ≡ is_held (cond u (some (lease_of (part 304 42 b))) none)
+              at : (u : Bool) → u ≡ is_held (cond u (Some (lease_of (part 304 42 b))) None)
               at true = refl
               at false = refl
 

@@ -3,8 +3,7 @@
 --   HeadOf            its type and number, and what stands in it
 --   first_for, ia_asked the prefix in its IA_PD, where one stands; its IA_PD
 --   query_of, Put      the message; a text put at the front of the room
-use Rattle.std.specs.Prelude.{◌≡◌, true, false, not, List, [], ℕ, length}
-use Rattle.std.proofs.Math.Option.{Option, none, some}
+use Rattle.std.specs.Prelude.{◌≡◌, true, false, not, List, [], ℕ, length, Option, None, Some}
 use Rattle.rules.specs.Words.{splice}
 use Rattle.rules.specs.Prefix.{prefix, Lease, lease}
 use Rattle.rules.specs.Message.{Listed, Ia, print}
@@ -31,8 +30,8 @@ pub record HeadOf (r : Router) (h : Head) : Type 0 where
 
 -- a zero prefix with the wanted length, or the one that is sent
 abbrev pub first_for : ℕ → Option Lease → Listed
-first_for n none = record { preferred = 0; valid = 0; lease = lease (prefix 0 n) none; statuses = [] }
-first_for n (some l) = record { preferred = 0; valid = 0; lease = l; statuses = [] }
+first_for n None = record { preferred = 0; valid = 0; lease = lease (prefix 0 n) None; statuses = [] }
+first_for n (Some l) = record { preferred = 0; valid = 0; lease = l; statuses = [] }
 
 abbrev pub ia_asked : Router → Ia
 ia_asked r = record { iaid = r.me.iaid; t1 = 0; t2 = 0; listed = lists r.wanted (exchange_in r).sent; statuses = [] }

@@ -1,6 +1,5 @@
 // The message of the open exchange, from the state: what is sent first, and again.
 ghost use Rattle.std.specs.Prelude.{◌≡◌, [], ◌≤◌, length};
-ghost use Rattle.std.proofs.Math.Option.{none, some};
 ghost use Rattle.rules.specs.Words.{part};
 ghost use Rattle.rules.specs.Router.{lists};
 ghost use Rattle.rules.specs.RouterBytes.{lease_of, router_of};
@@ -31,7 +30,7 @@ fn head_of(t: &[u8]) -> Head
 // A zero prefix with the wanted length.
 fn wanted(t: &[u8]) -> IaPrefix
     requires { length t.now ≡ 384 }
-    ensures { listed_of result [] ≡ first_for (router_of t.now).wanted none }
+    ensures { listed_of result [] ≡ first_for (router_of t.now).wanted None }
 {
     let length = cells::get(t, 36, 1) as usize;
     let bits = [0u8; 16];
@@ -48,7 +47,7 @@ fn wanted(t: &[u8]) -> IaPrefix
 // The prefix that it sends, with the excluded one.
 fn carried(t: &[u8]) -> IaPrefix
     requires { length t.now ≡ 384 }
-    ensures { listed_of result [] ≡ first_for 0 (some (lease_of (part 347 34 t.now))) }
+    ensures { listed_of result [] ≡ first_for 0 (Some (lease_of (part 347 34 t.now))) }
 {
     let bits = cells::get16(t, 347);
     let length = cells::get(t, 363, 1) as usize;

@@ -5,8 +5,7 @@
 --   form_tests, id_tests, pd_tests, silence_tests   the refusals by what is judged
 --   message_tests, box_tests                      all of them, in their order
 --   box_start, box_handle, box_live   the operations
-use Rattle.std.specs.Prelude.{ℕ, ◌*◌, ◌/◌, Bool, true, false, cond, not, ◌&&◌, List, [], ◌∷◌, ◌++◌, map, eqb, leb, ltb, length, get_or}
-use Rattle.std.proofs.Math.Option.{Option, none, some}
+use Rattle.std.specs.Prelude.{ℕ, ◌*◌, ◌/◌, Bool, true, false, cond, not, ◌&&◌, List, [], ◌∷◌, ◌++◌, map, eqb, leb, ltb, length, get_or, Option, None, Some}
 use Rattle.rules.specs.Words.{all, any, keep, first}
 use Rattle.rules.specs.Refusals.{Res, done, unless, bad_time, lent_tests, room_tests, wrong_size}
 use Rattle.rules.specs.Prefix.{Prefix, same_prefix, inside, Lease, lease, except_for}
@@ -42,7 +41,7 @@ extend i now valid rs = map (λ r. cond (is_binding i r) (longer now valid r) r)
 
 -- "with lifetimes 0, length and bits as sent and no options"
 abbrev pub returned : Listed → Listed
-returned x = record { preferred = 0; valid = 0; lease = lease x.lease.prefix none; statuses = [] }
+returned x = record { preferred = 0; valid = 0; lease = lease x.lease.prefix None; statuses = [] }
 
 -- "each listed one that differs from it in length or in any of 128 bits, in order"
 unfoldable pub others : Prefix → List Listed → List Listed
@@ -54,9 +53,9 @@ gone s xs = ltb 0 (length xs) && all (λ x. not (inside x.lease.prefix s.pool)) 
 
 -- a PD Exclude that is listed equals the excluded prefix
 abbrev pub same_except : Option Prefix → Option Prefix → Bool
-same_except none e = true
-same_except (some f) none = false
-same_except (some f) (some e) = same_prefix f e
+same_except None e = true
+same_except (Some f) None = false
+same_except (Some f) (Some e) = same_prefix f e
 
 -- "some listed prefix equals its prefix and length, and every PD Exclude listed equals its excluded prefix"
 unfoldable pub is_freed : Record → List Listed → Bool
@@ -64,8 +63,8 @@ is_freed r xs = any (λ x. same_prefix x.lease.prefix r.lease.prefix) xs && all 
 
 -- "Look at the first IA Prefix."
 abbrev pub hint_of : List Listed → Option Prefix
-hint_of [] = none
-hint_of (x ∷ xs) = some x.lease.prefix
+hint_of [] = None
+hint_of (x ∷ xs) = Some x.lease.prefix
 
 -- ---------------------------------------------------------------- one IA_PD served
 
@@ -100,29 +99,29 @@ pub record Asked : Type 0 where
 module _ (s : Settings) (now : Moment) (q : Asked) (rs : List Record) where
   -- "An identity with a live binding is offered that. Otherwise choose. .. A Request stores it; a Solicit doesn't. A Request for a live binding extends it."
   abbrev pub serve_solicit : Option Record → Option Prefix → Served
-  serve_solicit (some r) c = leaves rs (offer r.lease [])
-  serve_solicit none (some p) = leaves rs (offer (lease_for s q.asks p) [])
-  serve_solicit none none = leaves rs no_prefix_avail
+  serve_solicit (Some r) c = leaves rs (offer r.lease [])
+  serve_solicit None (Some p) = leaves rs (offer (lease_for s q.asks p) [])
+  serve_solicit None None = leaves rs no_prefix_avail
 
   abbrev pub serve_request : Option Record → Option Prefix → Served
-  serve_request (some r) c = leaves (extend q.who now s.valid rs) (offer r.lease [])
-  serve_request none (some p) = leaves (bind q.who (lease_for s q.asks p) (plus now s.valid) rs) (offer (lease_for s q.asks p) [])
-  serve_request none none = leaves rs no_prefix_avail
+  serve_request (Some r) c = leaves (extend q.who now s.valid rs) (offer r.lease [])
+  serve_request None (Some p) = leaves (bind q.who (lease_for s q.asks p) (plus now s.valid) rs) (offer (lease_for s q.asks p) [])
+  serve_request None None = leaves rs no_prefix_avail
 
   -- "With a binding: extend; the binding's prefix comes first, then each listed one that differs from it .. Renew without: IA_PD with NoBinding (3)."
   abbrev pub serve_renew : Option Record → Served
-  serve_renew (some r) = leaves (extend q.who now s.valid rs) (offer r.lease (others r.lease.prefix q.listed))
-  serve_renew none = leaves rs no_binding
+  serve_renew (Some r) = leaves (extend q.who now s.valid rs) (offer r.lease (others r.lease.prefix q.listed))
+  serve_renew None = leaves rs no_binding
 
   -- "Rebind without: if .. every listed one fails to lie wholly inside the pool, all are returned with lifetimes 0; otherwise refusal 8."
   abbrev pub serve_rebind : Option Record → Served
-  serve_rebind (some r) = serve_renew (some r)
-  serve_rebind none = leaves rs (cond (gone s q.listed) (return (map returned q.listed)) silence)
+  serve_rebind (Some r) = serve_renew (Some r)
+  serve_rebind None = leaves rs (cond (gone s q.listed) (return (map returned q.listed)) silence)
 
   -- "Freed exactly if there is a live binding, .. Otherwise NoBinding."
   abbrev pub serve_release : Option Record → Served
-  serve_release (some r) = cond (is_freed r q.listed) (leaves (give_up (is_binding q.who) rs) success) (leaves rs no_binding)
-  serve_release none = leaves rs no_binding
+  serve_release (Some r) = cond (is_freed r q.listed) (leaves (give_up (is_binding q.who) rs) success) (leaves rs no_binding)
+  serve_release None = leaves rs no_binding
 
   unfoldable pub serve : Kind → Served
   serve Solicit = serve_solicit (binding q.who rs) (choose s rs (hint_of q.listed))

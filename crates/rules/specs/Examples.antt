@@ -1,6 +1,5 @@
 -- Document 01's marked examples, E1 to E12: one table, and one statement that all of it holds.
-use Rattle.std.specs.Prelude.{ℕ, ◌+◌, ◌*◌, ◌^◌, Bool, true, false, ◌&&◌, List, [], ◌∷◌, map, eqb, T}
-use Rattle.std.proofs.Math.Option.{Option, none, some}
+use Rattle.std.specs.Prelude.{ℕ, ◌+◌, ◌*◌, ◌^◌, Bool, true, false, ◌&&◌, List, [], ◌∷◌, map, eqb, T, Option, None, Some}
 use Rattle.rules.specs.Words.{all, same_bytes, part, num, be}
 use Rattle.rules.specs.Refusals.{Res, refuse, done}
 use Rattle.rules.specs.Prefix.{Prefix, prefix, same_prefix, lease, overlap, inside, next_place, packed, exclude_bytes, encodable, content_ok, unpacked}
@@ -41,10 +40,10 @@ is5 (refuse n) = eqb n 5
 is5 (done q) = false
 
 same_choice : Option Prefix → Option Prefix → Bool
-same_choice none none = true
-same_choice none (some q) = false
-same_choice (some p) none = false
-same_choice (some p) (some q) = same_prefix p q
+same_choice None None = true
+same_choice None (Some q) = false
+same_choice (Some p) None = false
+same_choice (Some p) (Some q) = same_prefix p q
 
 -- "Pool 2001:db8:0:aa00::/56, S 56, D 60"
 settings : Settings
@@ -59,7 +58,7 @@ settings = record {
 }
 
 bound : Prefix → Record
-bound p = record { owner = identity [] 0; lease = lease p none; end = 0 }
+bound p = record { owner = identity [] 0; lease = lease p None; end = 0 }
 
 holds : Example → Bool
 holds (encodes p e l) = is_text l (write_exclude p e 512) && is_prefix e (read_exclude p l)
@@ -79,7 +78,7 @@ group : ℕ → ℕ → Prefix
 group d a = prefix (ip 0x2001 0xdb8 0 d 0) a
 
 long : ℕ → Option Prefix
-long n = some (prefix 0 n)
+long n = Some (prefix 0 n)
 
 table : List Example
 table =
@@ -96,16 +95,16 @@ table =
     -- E6 2001:db8:7::/48 with 2001:db8:7:1234::/64 is 00 43 00 03 40 12 34
     ∷ encodes (prefix (ip 0x2001 0xdb8 7 0 0) 48) (prefix (ip 0x2001 0xdb8 7 0x1234 0) 64) (0x00 ∷ 0x43 ∷ 0x00 ∷ 0x03 ∷ 0x40 ∷ 0x12 ∷ 0x34 ∷ [])
     -- E7 no hint: aa00/60
-    ∷ chooses [] none (some (group 0xaa00 60))
+    ∷ chooses [] None (Some (group 0xaa00 60))
     -- E8 then length 58: aa40/58
-    ∷ chooses (group 0xaa00 60 ∷ []) (long 58) (some (group 0xaa40 58))
+    ∷ chooses (group 0xaa00 60 ∷ []) (long 58) (Some (group 0xaa40 58))
     -- E9 then 57: aa80/57
-    ∷ chooses (group 0xaa00 60 ∷ group 0xaa40 58 ∷ []) (long 57) (some (group 0xaa80 57))
+    ∷ chooses (group 0xaa00 60 ∷ group 0xaa40 58 ∷ []) (long 57) (Some (group 0xaa80 57))
     -- E10 then 58: aa20/59
-    ∷ chooses (group 0xaa00 60 ∷ group 0xaa40 58 ∷ group 0xaa80 57 ∷ []) (long 58) (some (group 0xaa20 59))
+    ∷ chooses (group 0xaa00 60 ∷ group 0xaa40 58 ∷ group 0xaa80 57 ∷ []) (long 58) (Some (group 0xaa20 59))
     -- E11 then none: aa10/60; then NoPrefixAvail
-    ∷ chooses (group 0xaa00 60 ∷ group 0xaa40 58 ∷ group 0xaa80 57 ∷ group 0xaa20 59 ∷ []) none (some (group 0xaa10 60))
-    ∷ chooses (group 0xaa00 60 ∷ group 0xaa40 58 ∷ group 0xaa80 57 ∷ group 0xaa20 59 ∷ group 0xaa10 60 ∷ []) none none
+    ∷ chooses (group 0xaa00 60 ∷ group 0xaa40 58 ∷ group 0xaa80 57 ∷ group 0xaa20 59 ∷ []) None (Some (group 0xaa10 60))
+    ∷ chooses (group 0xaa00 60 ∷ group 0xaa40 58 ∷ group 0xaa80 57 ∷ group 0xaa20 59 ∷ group 0xaa10 60 ∷ []) None None
     -- E12 preferred 121: T1 60, T2 96. Preferred 4,294,967,294: T2 3,435,973,835
     ∷ t1_is 121 60
     ∷ t2_is 121 96

@@ -1,8 +1,6 @@
 -- The operations on lent arrays: for each, the word that it returns and every lent byte afterwards.
 --   The word is the refusal's number times 65,536, plus the length of what was written: one of the two is 0.
-use Rattle.std.specs.Prelude.{ℕ, ◌*◌, Bool, cond, not, List, [], ◌∷◌, ◌++◌, ltb, length}
-use Rattle.std.proofs.Math.Option.{Option, none, some}
-use Rattle.std.proofs.Math.ListN.{get_elem?}
+use Rattle.std.specs.Prelude.{ℕ, ◌*◌, Bool, cond, not, List, [], ◌∷◌, ◌++◌, ltb, length, Option, None, Some, slice_get}
 use Rattle.rules.specs.Words.{splice}
 use Rattle.rules.specs.Refusals.{Res, refuse, done, unless, lent_tests}
 use Rattle.rules.specs.Clock.{Moment}
@@ -69,14 +67,14 @@ box_counted b now = counted (of_table b (λ t. box_live t now))
 
 -- the record at a place, ended or not; none there: nothing
 abbrev pub record_text : Option Record → List ℕ
-record_text none = []
-record_text (some r) = record_bytes r
+record_text None = []
+record_text (Some r) = record_bytes r
 
 abbrev pub record_tests : Table → ℕ → List (ℕ × Bool)
 record_tests t room = (9, not (sound t)) ∷ (2, ltb room record_size) ∷ []
 
 abbrev pub box_record : Table → ℕ → ℕ → Res (List ℕ)
-box_record t i room = unless (record_tests t room) (done (record_text (get_elem? t.records i)))
+box_record t i room = unless (record_tests t room) (done (record_text (slice_get t.records i)))
 
 unfoldable pub box_shown : List ℕ → ℕ → List ℕ → Ended
 box_shown b i out = asked b out (of_table b (λ t. box_record t i (length out)))
@@ -100,8 +98,8 @@ router_received b now m = settle router_bytes b [] (no_text (of_router b (λ r. 
 
 -- what is held and hasn't ended; nothing held: nothing
 abbrev pub hold_text : Moment → Option Hold → List ℕ
-hold_text now none = []
-hold_text now (some h) = cond (ltb now h.end) (hold_bytes h) []
+hold_text now None = []
+hold_text now (Some h) = cond (ltb now h.end) (hold_bytes h) []
 
 abbrev pub held_tests : Router → Moment → ℕ → List (ℕ × Bool)
 held_tests r now room = lent_tests (sound_router r) r.last now ++ ((2, ltb room hold_size) ∷ [])

@@ -2,8 +2,7 @@
 --   Listed, Ia, Message   an IA Prefix, an IA_PD, a message: all that is read in each
 --   read, well_formed      a message's bytes as a value; whether no option is malformed
 --   print                 the bytes of a message
-use Rattle.std.specs.Prelude.{ℕ, ◌+◌, ◌-◌, ◌*◌, Bool, true, false, cond, List, [], ◌∷◌, ◌++◌, map, eqb, length, get_or}
-use Rattle.std.proofs.Math.Option.{Option, none, some}
+use Rattle.std.specs.Prelude.{ℕ, ◌+◌, ◌-◌, ◌*◌, Bool, true, false, cond, List, [], ◌∷◌, ◌++◌, map, eqb, length, get_or, Option, None, Some}
 use Rattle.rules.specs.Words.{any, be, be16, num_at, u16_at}
 use Rattle.rules.specs.Prefix.{Prefix, prefix, Lease, lease, exclude_bytes, unpacked}
 use Rattle.rules.specs.Options.{Area, area_of, check, is_good, options, nth, content, Item, item, printed}
@@ -46,8 +45,8 @@ status_at m Nothing = 0
 
 -- the excluded prefix inside p
 abbrev pub except_at : List ℕ → Prefix → Found → Option Prefix
-except_at m p (At q s n) = some (unpacked p (get_or m s 0) (num_at m (s + 1) (n - 1)))
-except_at m p Nothing = none
+except_at m p (At q s n) = Some (unpacked p (get_or m s 0) (num_at m (s + 1) (n - 1)))
+except_at m p Nothing = None
 
 -- "preferred, valid (4 each), length (1), prefix (16), options", where the content starts at s and its options are a
 abbrev pub listed_in : List ℕ → ℕ → Area → Listed
@@ -62,7 +61,7 @@ listed_in m s a = record {
 
 unfoldable pub listed_at : List ℕ → Found → Listed
 listed_at m (At p s n) = listed_in m s (area_of m (s + 25) (s + n))
-listed_at m Nothing = record { preferred = 0; valid = 0; lease = lease (prefix 0 0) none; statuses = [] }
+listed_at m Nothing = record { preferred = 0; valid = 0; lease = lease (prefix 0 0) None; statuses = [] }
 
 -- "IAID, T1, T2 (4 bytes each), then options"
 abbrev pub ia_in : List ℕ → ℕ → Area → Ia
@@ -125,8 +124,8 @@ abbrev pub status_item : ℕ → Item
 status_item k = item 13 (be16 k ++ name_of k)
 
 abbrev pub except_items : ℕ → Option Prefix → List Item
-except_items a none = []
-except_items a (some e) = item 67 (exclude_bytes a e) ∷ []
+except_items a None = []
+except_items a (Some e) = item 67 (exclude_bytes a e) ∷ []
 
 unfoldable pub listed_bytes : Listed → List ℕ
 listed_bytes x =

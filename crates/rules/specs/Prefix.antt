@@ -5,8 +5,7 @@
 --   last64                   the last /64 of a delegation
 --   Lease                    a delegation, with its excluded prefix or none: one value in record, hold and offer
 --   packed, unpacked         the bits of an excluded prefix moved to a byte boundary, and back
-use Rattle.std.specs.Prelude.{ℕ, ◌+◌, ◌-◌, ◌*◌, ◌/◌, ◌%◌, ◌^◌, min, Bool, true, false, ◌&&◌, List, ◌∷◌, eqb, leb, ltb, length}
-use Rattle.std.proofs.Math.Option.{Option, none, some}
+use Rattle.std.specs.Prelude.{ℕ, ◌+◌, ◌-◌, ◌*◌, ◌/◌, ◌%◌, ◌^◌, min, Bool, true, false, ◌&&◌, List, ◌∷◌, eqb, leb, ltb, length, Option, None, Some}
 use Rattle.rules.specs.Words.{num, be}
 
 pub record Prefix : Type 0 where
@@ -96,10 +95,10 @@ lease p e = record { prefix = p; except = e }
 
 -- the last /64 of p, where that is excluded
 abbrev pub except_for : Bool → Prefix → Option Prefix
-except_for true p = some (last64 p)
-except_for false p = none
+except_for true p = Some (last64 p)
+except_for false p = None
 
 -- "with its excluded prefix or none, an encoding"
 abbrev pub lease_encodable : Prefix → Option Prefix → Bool
-lease_encodable p none = fits p
-lease_encodable p (some e) = fits p && encodable p e
+lease_encodable p None = fits p
+lease_encodable p (Some e) = fits p && encodable p e

@@ -1,7 +1,6 @@
 -- What is promised, as statements over the rules. They are proved elsewhere; nothing here is assumed.
-use Rattle.std.specs.Prelude.{ℕ, ◌≤◌, ◌<◌, ◌≡◌, true, false, ◌⊎◌, ◌↔◌, length}
+use Rattle.std.specs.Prelude.{ℕ, ◌≤◌, ◌<◌, ◌≡◌, true, false, ◌⊎◌, ◌↔◌, length, None, Some}
 use mathlib.Core.List.{List, Memᴰ}
-use Rattle.std.proofs.Math.Option.{none, some}
 use Rattle.rules.specs.Refusals.{done}
 use Rattle.rules.specs.Prefix.{Prefix, zero_after, overlap, inside}
 use Rattle.rules.specs.Message.{read}
@@ -45,7 +44,7 @@ ExactlyWhen =
     (T T' : Table) (now : Moment) (m a : List ℕ) (room : ℕ)
     → box_handle T now m room ≡ done (T', a)
     → Asks (kind_of (read m).kind)
-    → binding (asked_by (read m)).who (current now T.records) ≡ none
+    → binding (asked_by (read m)).who (current now T.records) ≡ None
     → (no_prefix (read a) ≡ true)
     ↔ ((Free60 T (current now T.records) → ⊥) ⊎ (most_records ≤ length (current now T.records)))
 
@@ -54,7 +53,7 @@ ExactlyWhen =
 -- the prefix is bound to the identity, with the same excluded prefix, until at least that moment
 pub record Bound (B : Box) (i : Identity) (h : Hold) : Type 0 where
   pub table : Table
-  pub started : B ≡ some table
+  pub started : B ≡ Some table
   pub record_of : Record
   pub stands : Memᴰ record_of table.records
   pub owned : record_of.owner ≡ i
@@ -66,13 +65,13 @@ pub record Bound (B : Box) (i : Identity) (h : Hold) : Type 0 where
 abbrev pub Demand3 : Type 0
 Demand3 =
     (n : Moment) (B : Box) (A : Alive) (S : Sent) → Run n B A S
-    → (i : Identity) (r : Router) (h : Hold) → A i ≡ some r → r.held ≡ some h → n < h.end → Bound B i h
+    → (i : Identity) (r : Router) (h : Hold) → A i ≡ Some r → r.held ≡ Some h → n < h.end → Bound B i h
 
 -- "So no two routers hold overlapping prefixes."
 abbrev pub Apart : Type 0
 Apart =
     (n : Moment) (B : Box) (A : Alive) (S : Sent) → Run n B A S
     → (i j : Identity) (q r : Router) (g h : Hold) → (i ≡ j → ⊥)
-    → A i ≡ some q → q.held ≡ some g → n < g.end
-    → A j ≡ some r → r.held ≡ some h → n < h.end
+    → A i ≡ Some q → q.held ≡ Some g → n < g.end
+    → A j ≡ Some r → r.held ≡ Some h → n < h.end
     → overlap g.lease.prefix h.lease.prefix ≡ false

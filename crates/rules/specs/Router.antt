@@ -5,8 +5,7 @@
 --   begun, again             a new exchange; the open one sent again
 --   awaited, accept          the message awaited; what its acceptance leaves
 --   router_start, router_send, router_resend, router_abandon, router_receive   the operations
-use Rattle.std.specs.Prelude.{ℕ, ◌+◌, ◌-◌, ◌%◌, ◌^◌, Bool, true, false, cond, not, ◌&&◌, ◌||◌, List, [], ◌∷◌, ◌++◌, eqb, leb, ltb, length, get_or}
-use Rattle.std.proofs.Math.Option.{Option, none, some}
+use Rattle.std.specs.Prelude.{ℕ, ◌+◌, ◌-◌, ◌%◌, ◌^◌, Bool, true, false, cond, not, ◌&&◌, ◌||◌, List, [], ◌∷◌, ◌++◌, eqb, leb, ltb, length, get_or, Option, None, Some}
 use Rattle.rules.specs.Words.{all, any, first, same_bytes}
 use Rattle.rules.specs.Refusals.{Res, done, unless, lent_tests, room_tests, wrong_size}
 use Rattle.rules.specs.Prefix.{prefix, zero_after, Lease, lease, lease_encodable}
@@ -49,31 +48,31 @@ unfoldable pub good_lease : Lease → Bool
 good_lease l = lease_encodable l.prefix l.except && zero_after l.prefix
 
 abbrev pub known : Option Duid → Bool
-known none = false
-known (some d) = true
+known None = false
+known (Some d) = true
 
 -- "a server's DUID has 3 to 130 bytes"
 abbrev pub good_server : Option Duid → Bool
-good_server none = true
-good_server (some d) = good_duid d
+good_server None = true
+good_server (Some d) = good_duid d
 
 -- "its end is below 2^49 or never", "anything held has a server"
 abbrev pub good_hold : Option Duid → Option Hold → Bool
-good_hold s none = true
-good_hold s (some h) = known s && good_lease h.lease && good_end h.end
+good_hold s None = true
+good_hold s (Some h) = known s && good_lease h.lease && good_end h.end
 
 -- a Solicit or Request sends no prefix of its own, the others the held one
 abbrev pub good_sent : Kind → Option Lease → Bool
-good_sent Solicit none = true
-good_sent Solicit (some l) = false
-good_sent Request none = true
-good_sent Request (some l) = false
-good_sent Renew none = false
-good_sent Renew (some l) = good_lease l
-good_sent Rebind none = false
-good_sent Rebind (some l) = good_lease l
-good_sent Release none = false
-good_sent Release (some l) = good_lease l
+good_sent Solicit None = true
+good_sent Solicit (Some l) = false
+good_sent Request None = true
+good_sent Request (Some l) = false
+good_sent Renew None = false
+good_sent Renew (Some l) = good_lease l
+good_sent Rebind None = false
+good_sent Rebind (Some l) = good_lease l
+good_sent Release None = false
+good_sent Release (Some l) = good_lease l
 
 -- the row wants a Server ID
 abbrev pub wants_server : Kind → Bool
@@ -81,8 +80,8 @@ wants_server k = (row_of (type_of k)).1
 
 -- "an open exchange has the server and prefix it sends"
 abbrev pub good_exchange : Option Duid → Option Exchange → Bool
-good_exchange s none = true
-good_exchange s (some x) = (not (wants_server x.kind) || known s) && good_sent x.kind x.sent
+good_exchange s None = true
+good_exchange s (Some x) = (not (wants_server x.kind) || known s) && good_sent x.kind x.sent
 
 -- 10 "a router: wanted length over 64 or DUID length wrong"
 abbrev pub good_asker : Identity → ℕ → Bool
@@ -114,12 +113,12 @@ listing l = record { preferred = 0; valid = 0; lease = l; statuses = [] } ∷ []
 
 -- "the held one with its PD Exclude, or, in a Solicit or Request, a zero prefix with the wanted length (left out when 0)"
 abbrev pub lists : ℕ → Option Lease → List Listed
-lists n none = cond (eqb n 0) [] (listing (lease (prefix 0 n) none))
-lists n (some l) = listing l
+lists n None = cond (eqb n 0) [] (listing (lease (prefix 0 n) None))
+lists n (Some l) = listing l
 
 abbrev pub servers_of : Option Duid → List Duid
-servers_of none = []
-servers_of (some d) = d ∷ []
+servers_of None = []
+servers_of (Some d) = d ∷ []
 
 -- "It sends Client ID; Server ID where the row wants it; Option Request with 67, except in a Release; an IA_PD with zero T1 and T2"
 unfoldable pub query : Router → Exchange → Message
@@ -137,12 +136,12 @@ query r x = record {
 
 -- a held prefix counts while its end is after now
 abbrev pub holds : Moment → Option Hold → Option Lease
-holds now none = none
-holds now (some h) = cond (ltb now h.end) (some h.lease) none
+holds now None = None
+holds now (Some h) = cond (ltb now h.end) (Some h.lease) None
 
 abbrev pub is_held : Option Lease → Bool
-is_held none = false
-is_held (some l) = true
+is_held None = false
+is_held (Some l) = true
 
 -- 13: "Request needs a known server. Renew, Rebind and Release need a held prefix whose end hasn't come."
 abbrev pub allows : Kind → Router → Moment → Bool
@@ -154,8 +153,8 @@ allows Release r now = is_held (holds now r.held)
 
 -- the prefix that an exchange of that kind sends
 abbrev pub carries : Kind → Option Lease → Option Lease
-carries Solicit l = none
-carries Request l = none
+carries Solicit l = None
+carries Request l = None
 carries Renew l = l
 carries Rebind l = l
 carries Release l = l
@@ -165,8 +164,8 @@ abbrev pub too_soon : Router → Moment → Bool
 too_soon r now = leb now (r.started + 60) || leb now (r.freed + 60) || leb now r.began
 
 abbrev pub is_open : Option Exchange → Bool
-is_open none = false
-is_open (some x) = true
+is_open None = false
+is_open (Some x) = true
 
 abbrev pub exchange_for : Kind → Router → Moment → Exchange
 exchange_for k r now = record { kind = k; sent = carries k (holds now r.held) }
@@ -182,8 +181,8 @@ begun k r now = record {
   last = now;
   next = number_after r.next;
   server = r.server;
-  held = cond (is_release k) none r.held;
-  exchange = some (exchange_for k r now);
+  held = cond (is_release k) None r.held;
+  exchange = Some (exchange_for k r now);
 }
 
 -- a step that begins no exchange; "A step that isn't refused sets its last time."
@@ -203,11 +202,11 @@ step r now freed server held exchange = record {
 
 -- "Resending repeats the same bytes"; of a Release it is its last sending
 unfoldable pub again : Router → Moment → Exchange → Router
-again r now x = step r now (cond (is_release x.kind) now r.freed) r.server r.held (some x)
+again r now x = step r now (cond (is_release x.kind) now r.freed) r.server r.held (Some x)
 
 -- "abandoning closes the exchange"
 unfoldable pub closed : Router → Moment → Option Duid → Option Hold → Router
-closed r now server held = step r now r.freed server held none
+closed r now server held = step r now r.freed server held None
 
 -- ---------------------------------------------------------------- receiving
 
@@ -241,8 +240,8 @@ from_server k s l = stands true l && all good_duid l && (not (wants_server k) ||
 -- "The message awaited has the right type and transaction number; exactly one Client ID, its own; exactly one Server ID, ..;
 -- 4 to 1,232 bytes; and is well formed."
 unfoldable pub awaited : Router → List ℕ → Message → Option Exchange → Bool
-awaited r m v none = false
-awaited r m v (some x) =
+awaited r m v None = false
+awaited r m v (Some x) =
     not (wrong_size m) && well_formed m
     && eqb v.kind (answer_type x.kind) && eqb v.number (number_before r.next)
     && stands true v.clients && all (same_bytes r.me.duid) v.clients
@@ -256,11 +255,11 @@ takes x = ltb 0 x.valid && leb x.preferred x.valid && zero_after x.lease.prefix
 
 -- "Its end is the moment of first sending plus valid, or never; if that isn't after now, or there is no such prefix, it holds nothing."
 abbrev pub held_until : Moment → Lease → Moment → Option Hold
-held_until now l e = cond (ltb now e) (some (record { lease = l; end = e })) none
+held_until now l e = cond (ltb now e) (Some (record { lease = l; end = e })) None
 
 abbrev pub taken : Moment → Moment → Option Listed → Option Hold
-taken now sent none = none
-taken now sent (some x) = held_until now x.lease (plus sent x.valid)
+taken now sent None = None
+taken now sent (Some x) = held_until now x.lease (plus sent x.valid)
 
 -- what is held after an acceptance: from an Advertise or a Release's Reply nothing is taken
 abbrev pub held_after : Kind → Router → Moment → Option Listed → Option Hold
@@ -280,7 +279,7 @@ server_after Release r s = r.server
 
 -- "Any acceptance closes the exchange"
 unfoldable pub accept : Router → Moment → Message → Kind → Router
-accept r now v k = closed r now (server_after k r (some (get_or v.servers 0 []))) (held_after k r now (first takes (ia_of v).listed))
+accept r now v k = closed r now (server_after k r (Some (get_or v.servers 0 []))) (held_after k r now (first takes (ia_of v).listed))
 
 -- ---------------------------------------------------------------- the operations
 
@@ -294,9 +293,9 @@ router_start i n now = unless (start_tests (good_asker i n) now) (done record {
   freed = now;
   last = now;
   next = 0;
-  server = none;
-  held = none;
-  exchange = none;
+  server = None;
+  held = None;
+  exchange = None;
 })
 
 -- by the open exchange, and by what happened too short a time ago
@@ -329,8 +328,8 @@ resend_tests r now room = lent_tests (sound_router r) r.last now ++ (room_tests 
 
 -- the open exchange, and where there is none one that is never used
 abbrev pub open_of : Option Exchange → Exchange
-open_of none = record { kind = Solicit; sent = none }
-open_of (some x) = x
+open_of None = record { kind = Solicit; sent = None }
+open_of (Some x) = x
 
 unfoldable pub router_resend : Router → Moment → ℕ → Res (Router × List ℕ)
 router_resend r now room = unless (resend_tests r now room) (done (with_query (again r now (open_of r.exchange)) (open_of r.exchange)))

@@ -4,8 +4,7 @@
 --   the state, 384 bytes: last time 8, start 8, latest beginning 8, last sending of a Release 8, next number 4, wanted length 1,
 --     IAID 4, DUID length 1, DUID 130, server's DUID length 1 (0: none), server's DUID 130, held 1 (0 or 1), the hold 42,
 --     open exchange 1 (its message type, 0: none), the delegation that it sends 34, 3 that are zero
-use Rattle.std.specs.Prelude.{ℕ, ◌+◌, Bool, cond, ◌&&◌, List, ◌∷◌, ◌++◌, eqb, length, replicate}
-use Rattle.std.proofs.Math.Option.{Option, none, some}
+use Rattle.std.specs.Prelude.{ℕ, ◌+◌, Bool, cond, ◌&&◌, List, ◌∷◌, ◌++◌, eqb, length, replicate, Option, None, Some}
 use Rattle.rules.specs.Words.{part, same_bytes, filled, be, num_at}
 use Rattle.rules.specs.Prefix.{Prefix, prefix, Lease, lease}
 use Rattle.rules.specs.Identity.{Duid, identity, kind_of, type_of}
@@ -24,8 +23,8 @@ hold_size = 42
 -- ---------------------------------------------------------------- written
 
 abbrev pub except_bytes : Option Prefix → List ℕ
-except_bytes none = replicate 17 0
-except_bytes (some e) = be 16 e.bits ++ be 1 e.length
+except_bytes None = replicate 17 0
+except_bytes (Some e) = be 16 e.bits ++ be 1 e.length
 
 unfoldable pub lease_bytes : Lease → List ℕ
 lease_bytes l = be 16 l.prefix.bits ++ (be 1 l.prefix.length ++ except_bytes l.except)
@@ -37,20 +36,20 @@ abbrev pub duid_bytes : Duid → List ℕ
 duid_bytes d = be 1 (length d) ++ filled 130 d
 
 abbrev pub server_bytes : Option Duid → List ℕ
-server_bytes none = replicate 131 0
-server_bytes (some d) = duid_bytes d
+server_bytes None = replicate 131 0
+server_bytes (Some d) = duid_bytes d
 
 abbrev pub held_bytes : Option Hold → List ℕ
-held_bytes none = replicate (1 + hold_size) 0
-held_bytes (some h) = 1 ∷ hold_bytes h
+held_bytes None = replicate (1 + hold_size) 0
+held_bytes (Some h) = 1 ∷ hold_bytes h
 
 abbrev pub sent_bytes : Option Lease → List ℕ
-sent_bytes none = replicate lease_size 0
-sent_bytes (some l) = lease_bytes l
+sent_bytes None = replicate lease_size 0
+sent_bytes (Some l) = lease_bytes l
 
 abbrev pub exchange_bytes : Option Exchange → List ℕ
-exchange_bytes none = replicate (1 + lease_size) 0
-exchange_bytes (some x) = type_of x.kind ∷ sent_bytes x.sent
+exchange_bytes None = replicate (1 + lease_size) 0
+exchange_bytes (Some x) = type_of x.kind ∷ sent_bytes x.sent
 
 unfoldable pub router_bytes : Router → List ℕ
 router_bytes r =
@@ -62,7 +61,7 @@ router_bytes r =
 
 -- something stands where the number isn't 0
 abbrev pub some_if : {A : Type 0} → ℕ → A → Option A
-some_if n a = cond (eqb n 0) none (some a)
+some_if n a = cond (eqb n 0) None (Some a)
 
 unfoldable pub lease_of : List ℕ → Lease
 lease_of b = lease (prefix (num_at b 0 16) (num_at b 16 1)) (some_if (num_at b 33 1) (prefix (num_at b 17 16) (num_at b 33 1)))
@@ -75,7 +74,7 @@ abbrev pub duid_at : List ℕ → ℕ → Duid
 duid_at b at = part (at + 1) (num_at b at 1) b
 
 abbrev pub exchange_of : Kind → Lease → Exchange
-exchange_of k l = record { kind = k; sent = carries k (some l) }
+exchange_of k l = record { kind = k; sent = carries k (Some l) }
 
 unfoldable pub router_of : List ℕ → Router
 router_of b = record {

@@ -3,8 +3,7 @@
 --   is_binding, area, left, may_stand     what a record means to an identity, to other prefixes, and to other records
 --   give_up, live                        records given up in their places; "with an end after now, or never"
 --   sound                               when a table is sound
-use Rattle.std.specs.Prelude.{ℕ, ◌^◌, Bool, true, false, not, ◌&&◌, List, [], ◌∷◌, ◌++◌, leb, ltb, length}
-use Rattle.std.proofs.Math.Option.{Option, none, some}
+use Rattle.std.specs.Prelude.{ℕ, ◌^◌, Bool, true, false, not, ◌&&◌, List, [], ◌∷◌, ◌++◌, leb, ltb, length, Option, None, Some}
 use Rattle.rules.specs.Words.{all, no_two}
 use Rattle.rules.specs.Prefix.{Prefix, zero_after, same_prefix, overlap, inside, last64, Lease}
 use Rattle.rules.specs.Clock.{Moment, good_end}
@@ -66,8 +65,8 @@ current now rs = give_up (λ r. not (live now r)) rs
 
 -- "each excluded prefix is the last /64 of its delegation (none where exclusion is off)"
 abbrev pub good_except : Settings → Prefix → Option Prefix → Bool
-good_except s p none = true
-good_except s p (some e) = s.exclusion && same_prefix e (last64 p)
+good_except s p None = true
+good_except s p (Some e) = s.exclusion && same_prefix e (last64 p)
 
 -- "all prefixes lie in the pool with length S to 60 and zero bits after it", "each DUID has 3 to 130 bytes", "each end is below 2^49 or never"
 unfoldable pub good_record : Settings → Record → Bool

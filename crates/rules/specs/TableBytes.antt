@@ -3,8 +3,7 @@
 --   the header, 176 bytes: last time 8, number of records 2, upper half of the pool 8, P 1, S 1, D 1, exclusion 1 (0 or 1),
 --     preferred 4, valid 4, DUID length 1, DUID 130, 15 that are zero
 --   the table, 39,344 bytes: the header, the records in order, zeros
-use Rattle.std.specs.Prelude.{ℕ, ◌+◌, ◌*◌, ◌/◌, ◌^◌, Bool, true, false, not, ◌&&◌, List, ◌++◌, map, eqb, length, replicate}
-use Rattle.std.proofs.Math.Option.{Option, none, some}
+use Rattle.std.specs.Prelude.{ℕ, ◌+◌, ◌*◌, ◌/◌, ◌^◌, Bool, true, false, not, ◌&&◌, List, ◌++◌, map, eqb, length, replicate, Option, None, Some}
 use Rattle.rules.specs.Words.{each, from, part, same_bytes, filled, be, num_at}
 use Rattle.rules.specs.Prefix.{Prefix, prefix, Lease, lease, except_for}
 use Rattle.rules.specs.Identity.{identity}
@@ -29,8 +28,8 @@ flag true = 1
 flag false = 0
 
 abbrev pub is_some : Option Prefix → Bool
-is_some none = false
-is_some (some e) = true
+is_some None = false
+is_some (Some e) = true
 
 -- ---------------------------------------------------------------- written
 

@@ -6,8 +6,7 @@
 --   part, splice         n elements from a place; a list with another put in from a place
 --   num, be, be16        the number that bytes write, highest first; the n bytes, the two bytes of a number
 --   num_at, u16_at         the number in n bytes, in two bytes, from a place
-use Rattle.std.specs.Prelude.{ℕ, zero, suc, ◌+◌, ◌-◌, ◌*◌, ◌/◌, ◌%◌, ◌^◌, Bool, true, false, cond, ◌&&◌, ◌||◌, List, [], ◌∷◌, ◌++◌, eqb, length, get_or, take, drop, replicate}
-use Rattle.std.proofs.Math.Option.{Option, none, some}
+use Rattle.std.specs.Prelude.{ℕ, zero, suc, ◌+◌, ◌-◌, ◌*◌, ◌/◌, ◌%◌, ◌^◌, Bool, true, false, cond, ◌&&◌, ◌||◌, List, [], ◌∷◌, ◌++◌, eqb, length, get_or, take, drop, replicate, Option, None, Some}
 
 module _ {A : Type 0} where
   abbrev pub all : (A → Bool) → List A → Bool
@@ -31,8 +30,8 @@ module _ {A : Type 0} where
   keep f (x ∷ xs) = cons_if (f x) x (keep f xs)
 
   abbrev pub first : (A → Bool) → List A → Option A
-  first f [] = none
-  first f (x ∷ xs) = cond (f x) (some x) (first f xs)
+  first f [] = None
+  first f (x ∷ xs) = cond (f x) (Some x) (first f xs)
 
   abbrev pub each : List (List A) → List A
   each [] = []

@@ -1,6 +1,5 @@
 -- What the types of this crate stand for.
-use Rattle.std.specs.Prelude.{ℕ, take}
-use Rattle.std.proofs.Math.Option.{Option, none, some}
+use Rattle.std.specs.Prelude.{ℕ, take, Option, None, Some}
 use Rattle.rules.specs.Identity.{identity}
 use Rattle.rules.specs.Table.{Record}
 use Rattle.rules.specs.TableBytes.{leased}
@@ -16,5 +15,5 @@ binding_of b = record {
 }
 
 abbrev pub place_of : Place → Option ℕ
-place_of (At i) = some i
-place_of Nothing = none
+place_of (At i) = Some i
+place_of Nothing = None

@@ -1,6 +1,5 @@
 // What starting, sending and receiving change in a router's state: each leaves the bytes of the state that the rules name.
-ghost use Rattle.std.specs.Prelude.{◌≡◌, true, ◌∷◌, ◌+◌, ◌≤◌, length, replicate};
-ghost use Rattle.std.proofs.Math.Option.{Option};
+ghost use Rattle.std.specs.Prelude.{◌≡◌, true, ◌∷◌, ◌+◌, ◌≤◌, length, replicate, Option};
 ghost use Rattle.rules.specs.Words.{splice, be};
 ghost use Rattle.rules.specs.Identity.{identity, served, kind_of};
 ghost use Rattle.rules.specs.Router.{Hold, holds, carries, is_open, begun, again, closed, open_of};

@@ -1,6 +1,5 @@
 // What a router holds, in its 43 bytes: as it is kept, or new. Nothing held is 43 zeros.
 ghost use Rattle.std.specs.Prelude.{◌≡◌, true};
-ghost use Rattle.std.proofs.Math.Option.{some};
 ghost use Rattle.rules.specs.Words.{num, splice, be};
 ghost use Rattle.rules.specs.RouterBytes.{held_bytes, router_of, sound_router_bytes};
 ghost use Rattle.laws.specs.RouterChange.{hold_given};
@@ -27,7 +26,7 @@ fn less(h: [u8; 43], e: [u8; 16], b: u8) -> [u8; 43]
 
 // A prefix p of length a until `end`, without e of length b; no excluded prefix where b is 0.
 pub fn made(p: [u8; 16], a: u8, e: [u8; 16], b: u8, end: u64) -> [u8; 43]
-    ensures { result ≡ held_bytes (some (hold_given (num p) a (num e) b end)) }
+    ensures { result ≡ held_bytes (Some (hold_given (num p) a (num e) b end)) }
 {
     let mut d = [0u8; 43];
     cells::put(&mut d, 0, 1, 1);

@@ -1,6 +1,5 @@
 -- The values of rules/Message that the code's structs stand for.
-use Rattle.std.specs.Prelude.{◌≡◌, ℕ, ◌≤◌, ◌<◌, List, [], map, Bool, true, cond, eqb, take}
-use Rattle.std.proofs.Math.Option.{Option, none, some}
+use Rattle.std.specs.Prelude.{◌≡◌, ℕ, ◌≤◌, ◌<◌, List, [], map, Bool, true, cond, eqb, take, Option, None, Some}
 use Rattle.rules.specs.Words.{all, cons_if, num}
 use Rattle.rules.specs.Prefix.{Prefix, prefix, Lease, lease, lease_encodable}
 use Rattle.rules.specs.Message.{Listed, Ia}
@@ -9,7 +8,7 @@ use Rattle.values.specs.declared.Pd.{Pd}
 
 -- an excluded prefix of length b; none where b is 0
 unfoldable pub except_of : ℕ → List ℕ → Option Prefix
-except_of b out = cond (eqb b 0) none (some (prefix (num out) b))
+except_of b out = cond (eqb b 0) None (Some (prefix (num out) b))
 
 unfoldable pub lease_of : IaPrefix → Lease
 lease_of x = lease (prefix (num x.bits) x.length) (except_of x.cut x.out)
