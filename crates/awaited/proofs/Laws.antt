@@ -2,7 +2,7 @@
 use mathlib.Core.Path.{◌≡◌, refl, sym, ap, ◌∙◌}
 use mathlib.Core.Bool.{Bool, true, false, cond, not, ◌&&◌, ◌||◌, and-true, and_assoc, or-false}
 use mathlib.Core.List.{List, map}
-use Rattle.std.specs.Prelude.{None, Some}
+use Rattle.std.specs.Prelude.{None, Some, Option}
 use Prim.Native.Nat.{ℕ, ◌+◌, ◌-◌, ◌%◌, ◌≤◌, ◌<◌}
 use native.Mathlib.Omega.{arith}
 use native.Mathlib.Nat.{add-sub_cancel_left}
@@ -18,8 +18,8 @@ use Rattle.rules.specs.Router.{wants_server, servers_of, number_before, good_ia,
 use Rattle.rules.specs.RouterBytes.{some_if, duid_at, router_of}
 use Rattle.rules.specs.declared.Kind.{Kind}
 use Rattle.rules.specs.declared.Kind.TheVariants.{Solicit, Request, Renew, Rebind, Release}
-use Rattle.rules.specs.declared.Found.{Found}
-use Rattle.rules.specs.declared.Found.TheVariants.{At, Nothing}
+use Rattle.rules.specs.declared.Spot.{Spot}
+use Rattle.rules.specs.Options.{spot}
 use Rattle.laws.specs.Tests.{both, neither}
 use Rattle.laws.specs.Parts.{length_part}
 use Rattle.laws.specs.Same.{same_bool}
@@ -68,12 +68,12 @@ module _ (b m : List ℕ) (at s n : ℕ) (d : DuidIn b at) (w : s + n ≤ length
 -- ---------------------------------------------------------------- the Client ID
 
 module _ (b m : List ℕ) where
-  pub client-one : {r : Bool} {p s n : ℕ} → only_of 1 m ≡ At p s n → r ≡ same_bytes (duid_at b 41) (part s n m)
+  pub client-one : {r : Bool} {p s n : ℕ} → only_of 1 m ≡ Some (spot p s n) → r ≡ same_bytes (duid_at b 41) (part s n m)
       → r ≡ stands true (read m).clients && all (same_bytes (router_of b).me.duid) (read m).clients
   unfolding read router_of
   client-one h g = rw (only_at 1 m h, and-true, ← g)
 
-  pub client-other : only_of 1 m ≡ Nothing → false ≡ stands true (read m).clients && all (same_bytes (router_of b).me.duid) (read m).clients
+  pub client-other : only_of 1 m ≡ None → false ≡ stands true (read m).clients && all (same_bytes (router_of b).me.duid) (read m).clients
   unfolding read
   client-other h = rw (length-map, ne_eqb (count 1 (top m)) 1 (only-nothing 1 m h))
 
@@ -115,7 +115,7 @@ server-tests true w {c = c} h = rw (← h refl, and-true c)
 server-tests false w h = refl
 
 module _ (b m : List ℕ) (k : ℕ) where
-  pub server-one : {r : Bool} {p s n : ℕ} → s + n ≤ length m → only_of 2 m ≡ At p s n → r ≡ same_bytes (duid_at b 172) (part s n m)
+  pub server-one : {r : Bool} {p s n : ℕ} → s + n ≤ length m → only_of 2 m ≡ Some (spot p s n) → r ≡ same_bytes (duid_at b 172) (part s n m)
       → leb 3 n && leb n 130 && (eqb k 1 || eqb k 6 || r) ≡ from_server (kind_of k) (router_of b).server (read m).servers
   unfolding read router_of
   server-one {r} {s = s} {n = n} w h g =
@@ -125,59 +125,59 @@ module _ (b m : List ℕ) (k : ℕ) where
       ∙ rw (only_at 2 m h, g, ← unwanted k)
       (server-tests (good_duid d) (not (wants_server (kind_of k))) (λ q. known_same b d (leb-true 3 (length d) (both (leb 3 (length d)) (leb (length d) 130) q).0)))
 
-  pub server-other : only_of 2 m ≡ Nothing → false ≡ from_server (kind_of k) (router_of b).server (read m).servers
+  pub server-other : only_of 2 m ≡ None → false ≡ from_server (kind_of k) (router_of b).server (read m).servers
   unfolding read
   server-other h = rw (length-map, ne_eqb (count 2 (top m)) 1 (only-nothing 2 m h))
 
 -- ---------------------------------------------------------------- the IA_PD
 
 pub pd-read : (b m : List ℕ) (s n : ℕ) {i x y z : ℕ} → i ≡ num_at b 37 4 → x ≡ num_at m s 4 → y ≡ num_at m (s + 4) 4 → z ≡ num_at m (s + 8) 4
-    → eqb x i && not (ltb z y && ltb 0 z) ≡ good_ia (router_of b).me.iaid (ia_at m (At 0 s n))
+    → eqb x i && not (ltb z y && ltb 0 z) ≡ good_ia (router_of b).me.iaid (ia_at m (Some (spot 0 s n)))
 unfolding router_of ia_at
 pd-read b m s n ei ex ey ez = rw (← ei, ← ex, ← ey, ← ez)
 
 -- ---------------------------------------------------------------- NoPrefixAvail
 
-pub says-found : (m : List ℕ) {f : Found} {p s n : ℕ} {r : Bool} → f ≡ At p s n → r ≡ any (eqb 6) (map (status_at m) (options 13 (area_of m (s + 25) (s + n)))) → r ≡ says6 (listed_at m f).statuses
+pub says-found : (m : List ℕ) {f : Option Spot} {p s n : ℕ} {r : Bool} → f ≡ Some (spot p s n) → r ≡ any (eqb 6) (map (status_at m) (options 13 (area_of m (s + 25) (s + n)))) → r ≡ says6 (listed_at m f).statuses
 unfolding listed_at
 says-found m e g = rw e g
 
-pub says_none : (m : List ℕ) {f : Found} → f ≡ Nothing → false ≡ says6 (listed_at m f).statuses
+pub says_none : (m : List ℕ) {f : Option Spot} → f ≡ None → false ≡ says6 (listed_at m f).statuses
 unfolding listed_at
 says_none m e = rw e
 
-pub within-found : (e : ℕ) {f : Found} {p s n : ℕ} → f ≡ At p s n → Within e f → s + n ≤ e
+pub within-found : (e : ℕ) {f : Option Spot} {p s n : ℕ} → f ≡ Some (spot p s n) → Within e f → s + n ≤ e
 within-found e {s = s} {n = n} q w = (rw q at w)
 
-pub found_within : (w k : ℕ) (m : List ℕ) (at e : ℕ) (f : Found) → e ≤ length m → f ≡ nth w k (area_of m at e) → Within (length m) f
-found_within w k m at e (At p s n) h q = omega (arith, nth_inside w k m at e (sym q))
-found_within w k m at e Nothing h q = tt
+pub found_within : (w k : ℕ) (m : List ℕ) (at e : ℕ) (f : Option Spot) → e ≤ length m → f ≡ nth w k (area_of m at e) → Within (length m) f
+found_within w k m at e (Some o) h q = omega (arith, nth_inside w k m at e (sym q))
+found_within w k m at e None h q = tt
 
 -- what is still to be asked
 module _ (m : List ℕ) (s n : ℕ) where
-  abbrev fs : List Found
+  abbrev fs : List (Option Spot)
   fs = options 26 (area_of m (s + 12) (s + n))
 
   abbrev pub left6 : ℕ → Bool
   left6 k = any (λ f. says6 (listed_at m f).statuses) (drop k fs)
 
-  pub left-start : left6 0 ≡ any (λ x. says6 x.statuses) (ia_at m (At 0 s n)).listed
+  pub left-start : left6 0 ≡ any (λ x. says6 x.statuses) (ia_at m (Some (spot 0 s n))).listed
   unfolding ia_at
   left-start = sym (any-map (λ x. says6 x.statuses) (listed_at m) fs)
 
   module _ (k : ℕ) {c : ℕ} (ec : c ≡ length fs) where
-    module _ {f : Found} {r : Bool} (h : k < c) (found : f ≡ get_or fs k Nothing) (said : r ≡ says6 (listed_at m f).statuses) where
+    module _ {f : Option Spot} {r : Bool} (h : k < c) (found : f ≡ get_or fs k None) (said : r ≡ says6 (listed_at m f).statuses) where
       pub left-hit : r ≡ true → left6 k ≡ true
-      left-hit e = rw (drop-turn fs k ec Nothing h found, ← said, e)
+      left-hit e = rw (drop-turn fs k ec None h found, ← said, e)
 
       pub left-miss : r ≡ false → left6 k ≡ left6 (k + 1)
-      left-miss e = rw (drop-turn fs k ec Nothing h found, ← said, e)
+      left-miss e = rw (drop-turn fs k ec None h found, ← said, e)
 
     pub left_end : c ≤ k → left6 k ≡ false
     left_end h = rw (drop-end fs k ec h)
 
   pub says-read : {x y z : Bool} → x ≡ any (eqb 6) (map (status_at m) (options 13 (area_of m 4 (length m)))) → y ≡ any (eqb 6) (map (status_at m) (options 13 (area_of m (s + 12) (s + n))))
-      → z ≡ any (λ x. says6 x.statuses) (ia_at m (At 0 s n)).listed → x || (y || z) ≡ says6 (read m).statuses || pd_says6 (ia_at m (At 0 s n))
+      → z ≡ any (λ x. says6 x.statuses) (ia_at m (Some (spot 0 s n))).listed → x || (y || z) ≡ says6 (read m).statuses || pd_says6 (ia_at m (Some (spot 0 s n)))
   unfolding read top ia_at pd_says6
   says-read ex ey ez = rw (ex, ey, ez)
 
@@ -204,14 +204,14 @@ module _ (b m : List ℕ) (k : ℕ) where
     offers : (v : Message) → may_offer (kind_of k) v ≡ not (eqb k 1) || not (no_prefix v)
     offers v = offer-type (kind_of k) v ∙ ap (λ n. not (eqb n 1) || not (no_prefix v)) (sym (served-type k sv))
 
-    pub offer-one : {p s n : ℕ} {g x : Bool} → only_of 25 m ≡ At p s n → g ≡ good_ia (router_of b).me.iaid (ia_at m (At 0 s n))
-        → x ≡ says6 (read m).statuses || pd_says6 (ia_at m (At 0 s n)) → g && (not (eqb k 1) || not x) ≡ offered
+    pub offer-one : {p s n : ℕ} {g x : Bool} → only_of 25 m ≡ Some (spot p s n) → g ≡ good_ia (router_of b).me.iaid (ia_at m (Some (spot 0 s n)))
+        → x ≡ says6 (read m).statuses || pd_says6 (ia_at m (Some (spot 0 s n))) → g && (not (eqb k 1) || not x) ≡ offered
     unfolding read pd_says6
     offer-one {p} {s} {n} h eg ex =
-        let a = ia_at m (At 0 s n) in
+        let a = ia_at m (Some (spot 0 s n)) in
         rw (kept, offers (read m), only_at 25 m h, ia-place m p s n, eg, ex, and-true, or-false (pd_says6 a))
 
-    pub offer-other : only_of 25 m ≡ Nothing → false ≡ offered
+    pub offer-other : only_of 25 m ≡ None → false ≡ offered
     unfolding read
     offer-other h = rw (kept, length-map, ne_eqb (count 25 (top m)) 1 (only-nothing 25 m h))
 

@@ -17,7 +17,7 @@ use Rattle.rules.specs.Message.{read, well_formed}
 use Rattle.rules.specs.Identity.{Duid, good_duid, good_identity, served, kind_of, type_of, answer_type, stands}
 use Rattle.rules.specs.Router.{Exchange, good_server, is_open, good_ias, may_offer, from_server, number_before, awaited, open_of}
 use Rattle.rules.specs.RouterBytes.{duid_bytes, server_bytes, some_if, lease_of, duid_at, exchange_of, router_of, sound_router_bytes}
-use Rattle.rules.specs.declared.Found.TheVariants.{At, Nothing}
+use Rattle.rules.specs.Options.{spot}
 use Rattle.laws.specs.Tests.{both, false-true}
 use Rattle.laws.specs.Kinds.{type-served}
 use Rattle.laws.specs.Flat.{be-one}
@@ -75,8 +75,8 @@ module _ (b : List ℕ) (sound : sound_router_bytes b ≡ true) where
 
 -- ---------------------------------------------------------------- a message that is awaited
 
-pub only-formed : (m : List ℕ) → well_formed m ≡ true → {p s n : ℕ} → only_of 25 m ≡ At p s n → PdFormed m s n
-only-formed m g h = formed-pd m g 0 (ap (λ l. get_or l 0 Nothing) (only_at 25 m h))
+pub only-formed : (m : List ℕ) → well_formed m ≡ true → {p s n : ℕ} → only_of 25 m ≡ Some (spot p s n) → PdFormed m s n
+only-formed m g h = formed-pd m g 0 (ap (λ l. get_or l 0 None) (only_at 25 m h))
 
 pub record Awaited (b m : List ℕ) (k : ℕ) : Type 0 where
   pub pending : k ≡ 0 → ⊥

@@ -1,12 +1,12 @@
 -- The parts of `awaited` that have no name in the rules, and what its functions ask for.
-use Rattle.std.specs.Prelude.{ℕ, ◌+◌, ◌≤◌, Bool, ◌&&◌, ◌||◌, List, eqb, length}
+use Rattle.std.specs.Prelude.{ℕ, ◌+◌, ◌≤◌, Bool, ◌&&◌, ◌||◌, List, eqb, length, None, Option, Some}
 use Rattle.rules.specs.Words.{any, num_at}
 use Rattle.rules.specs.Message.{Ia, Message}
 use Rattle.rules.specs.Identity.{answer_type}
 use Rattle.rules.specs.Router.{number_before, says6}
 use Rattle.rules.specs.declared.Kind.{Kind}
-use Rattle.rules.specs.declared.Found.{Found}
-use Rattle.rules.specs.declared.Found.TheVariants.{At, Nothing}
+use Rattle.rules.specs.declared.Spot.{Spot}
+use Rattle.rules.specs.Options.{spot}
 
 -- the right type and transaction number, for a router whose next number is x
 unfoldable pub answers_to : Kind → ℕ → Message → Bool
@@ -22,6 +22,6 @@ pub record DuidIn (b : List ℕ) (at : ℕ) : Type 0 where
   pub few : num_at b at 1 ≤ 130
 
 -- an option that was found ends at or before e
-abbrev pub Within : ℕ → Found → Type 0
-Within e (At p s n) = s + n ≤ e
-Within e Nothing = Unit {0}
+abbrev pub Within : ℕ → Option Spot → Type 0
+Within e (Some o) = o.start + o.len ≤ e
+Within e None = Unit {0}

@@ -8,12 +8,12 @@ ghost use Rattle.rules.specs.Message.{listed_at, ia_at, read, well_formed};
 ghost use Rattle.rules.specs.Identity.{served, kind_of, stands};
 ghost use Rattle.rules.specs.Router.{good_ia, good_ias, says6, may_offer, from_server, awaited};
 ghost use Rattle.rules.specs.RouterBytes.{duid_at, router_of, sound_router_bytes};
-ghost use Rattle.rules.specs.declared.Found.TheVariants.{At};
+ghost use Rattle.rules.specs.Options.{spot};
 ghost use Rattle.laws.specs.Formed.{PdFormed};
 ghost use Rattle.awaited.specs.Parts.{DuidIn, Within, answers_to, pd_says6};
 
 use heard::only;
-use rules::Found;
+use rules::Spot;
 use wire::content::u32_at;
 use wire::find::{count_of, find};
 use wire::says::has_status;
@@ -56,12 +56,8 @@ fn own_client(t: &[u8], msg: &[u8]) -> bool
     ensures { result ≡ stands true (read msg.now).clients && all (same_bytes (router_of t.now).me.duid) (read msg.now).clients }
 {
     match only(msg, 1) {
-        Found::At {
-            place: _,
-            start,
-            len,
-        } => is_duid(t, 41, msg, start, len),
-        Found::Nothing => false,
+        Some(o) => is_duid(t, 41, msg, o.start, o.len),
+        None => false,
     }
 }
 
@@ -71,22 +67,18 @@ fn from_server(t: &[u8], msg: &[u8], kind: u64) -> bool
     ensures { result ≡ from_server (kind_of kind) (router_of t.now).server (read msg.now).servers }
 {
     match only(msg, 2) {
-        Found::At {
-            place: _,
-            start,
-            len,
-        } => {
-            let known = is_duid(t, 172, msg, start, len);
-            (3 <= len) & (len <= 130) & ((kind == 1) | (kind == 6) | known)
+        Some(o) => {
+            let known = is_duid(t, 172, msg, o.start, o.len);
+            (3 <= o.len) & (o.len <= 130) & ((kind == 1) | (kind == 6) | known)
         }
-        Found::Nothing => false,
+        None => false,
     }
 }
 
 // The IA_PD with that content has the router's own IAID, and not T1 > T2 > 0.
 fn good_pd(t: &[u8], msg: &[u8], start: usize, len: usize) -> bool
     requires { (length t.now ≡ 384) × PdFormed msg.now start len }
-    ensures { result ≡ good_ia (router_of t.now).me.iaid (ia_at msg.now (At 0 start len)) }
+    ensures { result ≡ good_ia (router_of t.now).me.iaid (ia_at msg.now (Some (spot 0 start len))) }
 {
     let own = cells::get(t, 37, 4) as u32;
     let iaid = u32_at(msg, start);
@@ -96,24 +88,20 @@ fn good_pd(t: &[u8], msg: &[u8], start: usize, len: usize) -> bool
 }
 
 // Whether an IA Prefix has a Status Code NoPrefixAvail.
-fn says_6(msg: &[u8], f: Found) -> bool
+fn says_6(msg: &[u8], f: Option<Spot>) -> bool
     requires { Within (length msg.now) f }
     ensures { result ≡ says6 (listed_at msg.now f).statuses }
 {
     match f {
-        Found::At {
-            place: _,
-            start,
-            len,
-        } => has_status(msg, start + 25, start + len, 6),
-        Found::Nothing => false,
+        Some(o) => has_status(msg, o.start + 25, o.start + o.len, 6),
+        None => false,
     }
 }
 
 // Whether some IA Prefix of the IA_PD with that content does.
 fn prefix_says_6(msg: &[u8], start: usize, len: usize) -> bool
     requires { PdFormed msg.now start len }
-    ensures { result ≡ any (λ x. says6 x.statuses) (ia_at msg.now (At 0 start len)).listed }
+    ensures { result ≡ any (λ x. says6 x.statuses) (ia_at msg.now (Some (spot 0 start len))).listed }
 {
     let n = count_of(msg, start + 12, start + len, 26);
     let mut k = 0;
@@ -129,7 +117,7 @@ fn prefix_says_6(msg: &[u8], start: usize, len: usize) -> bool
 // NoPrefixAvail at any level.
 fn no_prefix(msg: &[u8], start: usize, len: usize) -> bool
     requires { PdFormed msg.now start len }
-    ensures { result ≡ says6 (read msg.now).statuses || pd_says6 (ia_at msg.now (At 0 start len)) }
+    ensures { result ≡ says6 (read msg.now).statuses || pd_says6 (ia_at msg.now (Some (spot 0 start len))) }
 {
     let here = has_status(msg, 4, msg.len(), 6);
     let inside = has_status(msg, start + 12, start + len, 6);
@@ -145,15 +133,11 @@ fn offers(t: &[u8], msg: &[u8], kind: u64) -> bool
         return true;
     }
     match only(msg, 25) {
-        Found::At {
-            place: _,
-            start,
-            len,
-        } => {
-            let good = good_pd(t, msg, start, len);
-            good & ((kind != 1) | !no_prefix(msg, start, len))
+        Some(o) => {
+            let good = good_pd(t, msg, o.start, o.len);
+            good & ((kind != 1) | !no_prefix(msg, o.start, o.len))
         }
-        Found::Nothing => false,
+        None => false,
     }
 }
 

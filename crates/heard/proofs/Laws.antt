@@ -1,4 +1,5 @@
 -- Laws that only these proofs need.
+use Rattle.std.specs.Prelude.{None, Option, Some}
 use mathlib.Core.Path.{◌≡◌, refl, sym, ap, ◌∙◌}
 use mathlib.Core.Bool.{Bool, true, false, cond, not, ◌&&◌, and-true, and_assoc}
 use mathlib.Core.List.{List, [], ◌∷◌, ◌++◌, map, append_assoc, append-nil}
@@ -16,8 +17,8 @@ use Rattle.rules.specs.Message.{listed_at, ia_at, top, read}
 use Rattle.rules.specs.Identity.{Duid, kind_of, identity_rows, row_of, stands, row_holds}
 use Rattle.rules.specs.Box.{wrong_pds}
 use Rattle.rules.specs.declared.Kind.TheVariants.{Release}
-use Rattle.rules.specs.declared.Found.{Found}
-use Rattle.rules.specs.declared.Found.TheVariants.{At, Nothing}
+use Rattle.rules.specs.declared.Spot.{Spot}
+use Rattle.rules.specs.Options.{spot}
 use Rattle.laws.specs.Steps.{Stepped, Stopped, options-here, options-past}
 use Rattle.laws.specs.Parts.{length_part}
 use Rattle.laws.specs.Same.{other_length}
@@ -35,17 +36,17 @@ use Rattle.heard.specs.Facts.{only_at, only-nothing, pd-is}
 -- ---------------------------------------------------------------- the one option of a code
 
 module _ (w : ℕ) (m : List ℕ) where
-  pub only-other : {k : ℕ} → k ≡ count w (area_of m 4 (length m)) → (k ≡ 1 → ⊥) → Nothing ≡ only_of w m
+  pub only-other : {k : ℕ} → k ≡ count w (area_of m 4 (length m)) → (k ≡ 1 → ⊥) → None ≡ only_of w m
   unfolding only_of top
   only-other q h = rw (← q, ne_eqb _ _ h)
 
-  pub only-found : {k : ℕ} {f : Found} → k ≡ count w (area_of m 4 (length m)) → k ≡ 1 → f ≡ nth w 0 (area_of m 4 (length m)) → f ≡ only_of w m
+  pub only-found : {k : ℕ} {f : Option Spot} → k ≡ count w (area_of m 4 (length m)) → k ≡ 1 → f ≡ nth w 0 (area_of m 4 (length m)) → f ≡ only_of w m
   unfolding only_of top
   only-found q h g = rw (← q, eq-eqb _ _ h, ← g)
 
   -- by the note of it
   module _ (x : Note) (n : IsNote w m x) where
-    pub only-other-noted : (x.count ≡ 1 → ⊥) → Nothing ≡ only_of w m
+    pub only-other-noted : (x.count ≡ 1 → ⊥) → None ≡ only_of w m
     unfolding only_of
     only-other-noted h = rw (← n.counts, ne_eqb _ _ h)
 
@@ -110,11 +111,11 @@ module _ (own : Duid) (k i : ℕ) (m : List ℕ) where
   unfolding ids_hold
   hold-none q e h = rw (← q, e, none-stands (id_good own i) (ids_of i m), length-map, h)
 
-  pub hold-one : {r b : Bool} {p s n : ℕ} → r ≡ id_wanted k i → r ≡ true → only_of (i + 1) m ≡ At p s n → b ≡ id_good own i (part s n m) → b ≡ ids_hold own k i m
+  pub hold-one : {r b : Bool} {p s n : ℕ} → r ≡ id_wanted k i → r ≡ true → only_of (i + 1) m ≡ Some (spot p s n) → b ≡ id_good own i (part s n m) → b ≡ ids_hold own k i m
   unfolding ids_hold
   hold-one q e h g = rw (← q, e, only_at (i + 1) m h, and-true, ← g)
 
-  pub hold-other : {r : Bool} → r ≡ id_wanted k i → r ≡ true → only_of (i + 1) m ≡ Nothing → false ≡ ids_hold own k i m
+  pub hold-other : {r : Bool} → r ≡ id_wanted k i → r ≡ true → only_of (i + 1) m ≡ None → false ≡ ids_hold own k i m
   unfolding ids_hold
   hold-other q e h = rw (← q, e, length-map, ne_eqb (count (i + 1) (top m)) 1 (only-nothing (i + 1) m h))
 
@@ -134,11 +135,11 @@ more-than k n = by (ltb n k) refl
     by true e = rw (lt-leb k n (ltb-true n k e))
     by false e = rw (le-leb k n (ltb-false n k e))
 
-pub few-pds : (m : List ℕ) {p s n : ℕ} → only_of 25 m ≡ At p s n → ltb 4 (length (ia_at m (At 0 s n)).listed) ≡ wrong_pds (read m)
+pub few-pds : (m : List ℕ) {p s n : ℕ} → only_of 25 m ≡ Some (spot p s n) → ltb 4 (length (ia_at m (Some (spot 0 s n))).listed) ≡ wrong_pds (read m)
 unfolding read
-few-pds m {p} {s} {n} h = rw (only_at 25 m h, ia-place m p s n) (more-than (length (ia_at m (At 0 s n)).listed) 4)
+few-pds m {p} {s} {n} h = rw (only_at 25 m h, ia-place m p s n) (more-than (length (ia_at m (Some (spot 0 s n))).listed) 4)
 
-pub other-pds : (m : List ℕ) → only_of 25 m ≡ Nothing → true ≡ wrong_pds (read m)
+pub other-pds : (m : List ℕ) → only_of 25 m ≡ None → true ≡ wrong_pds (read m)
 unfolding read
 other-pds m h = rw (length-map, ne_eqb (count 25 (top m)) 1 (only-nothing 25 m h))
 
@@ -154,10 +155,10 @@ first-left l r k x d h =
 
 module _ (m : List ℕ) (s n : ℕ) where
   -- the IA Prefixes from a place on, and all of them
-  abbrev from : ℕ → List Found
+  abbrev from : ℕ → List (Option Spot)
   from p = options 26 (area_of m p (s + n))
 
-  abbrev every : List Found
+  abbrev every : List (Option Spot)
   every = from (s + 12)
 
   -- k of them stand in the array, and with those still to come they are all
@@ -173,17 +174,17 @@ module _ (m : List ℕ) (s n : ℕ) where
       filled-past q = let e = options-past 26 h q in record { size = f.size; few = f.few; left = f.left ∙ e; whole = rw e at f.whole }
 
       module _ (q : c ≡ 26) where
-        next : (k < length every) × (nth 26 k (area_of m (s + 12) (s + n)) ≡ At p t l) × (drop (k + 1) every ≡ from x)
-        next = first-left every (from x) k (At p t l) Nothing (f.left ∙ options-here 26 h q)
+        next : (k < length every) × (nth 26 k (area_of m (s + 12) (s + n)) ≡ Some (spot p t l)) × (drop (k + 1) every ≡ from x)
+        next = first-left every (from x) k (Some (spot p t l)) None (f.left ∙ options-here 26 h q)
 
         pub filled-formed : PdFormed m s n → PrefixFormed m t l
         filled-formed g = formed-prefix m s n g k next.1
 
-        pub filled_next : (y : IaPrefix) → k < 5 → listed_of y (listed_at m (At 0 t l)).statuses ≡ listed_at m (At 0 t l) → Filled (set ps k y) (k + 1) x
+        pub filled_next : (y : IaPrefix) → k < 5 → listed_of y (listed_at m (Some (spot 0 t l))).statuses ≡ listed_at m (Some (spot 0 t l)) → Filled (set ps k y) (k + 1) x
         unfolding listed_of
         filled_next y g r =
             let o : k < length ps = omega (arith, f.size) in
-            let b : listed_of y [] ≡ bare (listed_at m (At p t l)) = rw (listed-place m p t l) (ap bare r) in
+            let b : listed_of y [] ≡ bare (listed_at m (Some (spot p t l))) = rw (listed-place m p t l) (ap bare r) in
             let w : first_listed k ps ++ (listed_of y [] ∷ map bare (map (listed_at m) (from x))) ≡ map bare (map (listed_at m) every) = rw b (rw (options-here 26 h q) at f.whole) in
             record {
               size = length-set ps k y ∙ f.size;
@@ -193,7 +194,7 @@ module _ (m : List ℕ) (s n : ℕ) where
             }
 
     abbrev Read : Type 0
-    Read = (ltb 4 k ≡ ltb 4 (length (ia_at m (At 0 s n)).listed)) × (k ≤ 4 → first_listed k ps ≡ map bare (ia_at m (At 0 s n)).listed)
+    Read = (ltb 4 k ≡ ltb 4 (length (ia_at m (Some (spot 0 s n))).listed)) × (k ≤ 4 → first_listed k ps ≡ map bare (ia_at m (Some (spot 0 s n))).listed)
 
     -- all were read, or five
     pub filled-end : Stopped m p (s + n) → Read
@@ -211,7 +212,7 @@ module _ (m : List ℕ) (s n : ℕ) where
 
 -- the whole IA_PD
 pub pd-read : (m : List ℕ) (s n : ℕ) (d : Pd) → d.iaid ≡ num_at m s 4 → d.t1 ≡ num_at m (s + 4) 4 → d.t2 ≡ num_at m (s + 8) 4 → d.says ≡ false
-    → first_listed d.count d.prefixes ≡ map bare (ia_at m (At 0 s n)).listed → ia_of d ≡ bare_ia (ia_at m (At 0 s n))
+    → first_listed d.count d.prefixes ≡ map bare (ia_at m (Some (spot 0 s n))).listed → ia_of d ≡ bare_ia (ia_at m (Some (spot 0 s n)))
 unfolding ia_of bare_ia ia_at
 pd-read m s n d i a b f l = rw (i, a, b, f, l)
 
@@ -227,5 +228,5 @@ module _ (m : List ℕ) {k : ℕ} (e : k ≡ get_or m 0 0) where
 
 -- ---------------------------------------------------------------- the IA_PD that is asked about
 
-pub pd-asked : (m : List ℕ) {p s n : ℕ} → only_of 25 m ≡ At p s n → (d : Pd) → (d.count ≤ 4 → ia_of d ≡ bare_ia (ia_at m (At 0 s n))) → ltb 4 d.count ≡ false → AskedPd m d
+pub pd-asked : (m : List ℕ) {p s n : ℕ} → only_of 25 m ≡ Some (spot p s n) → (d : Pd) → (d.count ≤ 4 → ia_of d ≡ bare_ia (ia_at m (Some (spot 0 s n)))) → ltb 4 d.count ≡ false → AskedPd m d
 pd-asked m h d e f = let g = ltb-false 4 d.count f in record { is = e g ∙ ap bare_ia (sym (pd-is m h)); few = g }

@@ -3,7 +3,7 @@
 --   Standing, standing           an option that isn't nothing stands somewhere
 --   ClientAt, client-            the one Client ID of a served message whose row holds
 --   pd-                          the one IA_PD
-use Rattle.std.specs.Prelude.{◌≡◌, refl, Bool, false, cond, List, [], ◌∷◌, ℕ, ◌+◌, ◌≤◌, eqb, leb}
+use Rattle.std.specs.Prelude.{◌≡◌, refl, Bool, false, cond, List, [], ◌∷◌, ℕ, ◌+◌, ◌≤◌, eqb, leb, None, Option, Some}
 use Rattle.std.proofs.Common.{sym, ◌∙◌, arith}
 use Rattle.std.proofs.Math.Path.{ap}
 use Rattle.std.proofs.Math.Bool.{true}
@@ -15,8 +15,8 @@ use Rattle.rules.specs.Options.{Area, over, stop, opt, options, count, nth, cont
 use Rattle.rules.specs.Message.{ia_at, top, read, well_formed}
 use Rattle.rules.specs.Identity.{Duid, good_duid, served, row_holds}
 use Rattle.rules.specs.Box.{client_of, ia_of}
-use Rattle.rules.specs.declared.Found.{Found}
-use Rattle.rules.specs.declared.Found.TheVariants.{At, Nothing}
+use Rattle.rules.specs.declared.Spot.{Spot}
+use Rattle.rules.specs.Options.{spot}
 use Rattle.laws.specs.Tests.{both}
 use Rattle.laws.specs.Parts.{length_part}
 use Rattle.laws.specs.Walk.{nth_inside}
@@ -28,49 +28,49 @@ use Rattle.heard.specs.Heard.{only_of}
 -- ---------------------------------------------------------------- the one option of a code
 
 -- what an area has of a code is never nothing
-nth-nothing : (w : ℕ) (a : Area) → nth w 0 a ≡ Nothing → options w a ≡ []
+nth-nothing : (w : ℕ) (a : Area) → nth w 0 a ≡ None → options w a ≡ []
 unfolding options
 nth-nothing w over h = refl
 nth-nothing w (stop p) h = refl
 nth-nothing w (opt p c s n r) h = by (eqb c w) h (nth-nothing w r)
   where
-    by : (b : Bool) → get_or (cons_if b (At p s n) (options w r)) 0 Nothing ≡ Nothing → (nth w 0 r ≡ Nothing → options w r ≡ []) → cons_if b (At p s n) (options w r) ≡ []
+    by : (b : Bool) → get_or (cons_if b (Some (spot p s n)) (options w r)) 0 None ≡ None → (nth w 0 r ≡ None → options w r ≡ []) → cons_if b (Some (spot p s n)) (options w r) ≡ []
     by true h ih = let z : ◌≡◌ {A = ℕ} 0 1 = cc in absurd (omega arith)
     by false h ih = ih h
 
-abbrev alone : List Found → Found
-alone l = cond (eqb (length l) 1) (get_or l 0 Nothing) Nothing
+abbrev alone : List (Option Spot) → Option Spot
+alone l = cond (eqb (length l) 1) (get_or l 0 None) None
 
-alone_at : (l : List Found) {p s n : ℕ} → alone l ≡ At p s n → l ≡ At p s n ∷ []
+alone_at : (l : List (Option Spot)) {p s n : ℕ} → alone l ≡ Some (spot p s n) → l ≡ Some (spot p s n) ∷ []
 alone_at [] h = let z : ◌≡◌ {A = ℕ} 0 1 = cc in absurd (omega arith)
 alone_at (x ∷ []) h = ap (λ f. f ∷ []) h
 alone_at (x ∷ y ∷ l) h = let e = ne_eqb (length (x ∷ y ∷ l)) 1 (λ q. omega arith) in let z : ◌≡◌ {A = ℕ} 0 1 = cc in absurd (omega arith)
 
-alone-nothing : (l : List Found) → (get_or l 0 Nothing ≡ Nothing → l ≡ []) → alone l ≡ Nothing → length l ≡ 1 → ⊥
+alone-nothing : (l : List (Option Spot)) → (get_or l 0 None ≡ None → l ≡ []) → alone l ≡ None → length l ≡ 1 → ⊥
 alone-nothing l g h q = let z : length l ≡ 0 = ap length (g (rw (eq-eqb (length l) 1 q) at h)) in omega arith
 
 module _ (w : ℕ) (m : List ℕ) where
-  pub only_at : {p s n : ℕ} → only_of w m ≡ At p s n → options w (top m) ≡ At p s n ∷ []
+  pub only_at : {p s n : ℕ} → only_of w m ≡ Some (spot p s n) → options w (top m) ≡ Some (spot p s n) ∷ []
   unfolding only_of
   only_at h = alone_at (options w (top m)) h
 
-  pub only-inside : {p s n : ℕ} → only_of w m ≡ At p s n → s + n ≤ length m
+  pub only-inside : {p s n : ℕ} → only_of w m ≡ Some (spot p s n) → s + n ≤ length m
   unfolding top
-  only-inside h = nth_inside w 0 m 4 (length m) (ap (λ l. get_or l 0 Nothing) (only_at h))
+  only-inside h = nth_inside w 0 m 4 (length m) (ap (λ l. get_or l 0 None) (only_at h))
 
-  pub only-nothing : only_of w m ≡ Nothing → count w (top m) ≡ 1 → ⊥
+  pub only-nothing : only_of w m ≡ None → count w (top m) ≡ 1 → ⊥
   unfolding only_of
   only-nothing h = alone-nothing (options w (top m)) (nth-nothing w (top m)) h
 
-pub record Standing (f : Found) : Type 0 where
+pub record Standing (f : Option Spot) : Type 0 where
   pub place : ℕ
   pub start : ℕ
   pub len : ℕ
-  pub is : f ≡ At place start len
+  pub is : f ≡ Some (spot place start len)
 
-pub standing : (f : Found) → (f ≡ Nothing → ⊥) → Standing f
-standing (At p s n) h = record { place = p; start = s; len = n; is = refl }
-standing Nothing h = absurd (h refl)
+pub standing : (f : Option Spot) → (f ≡ None → ⊥) → Standing f
+standing (Some o) h = record { place = o.place; start = o.start; len = o.len; is = refl }
+standing None h = absurd (h refl)
 
 -- ---------------------------------------------------------------- the Client ID
 
@@ -83,7 +83,7 @@ pub record ClientAt (m : List ℕ) (s n : ℕ) : Type 0 where
   pub stretch : client_stretch m ≡ client_of (read m)
 
 module _ (own : Duid) (m : List ℕ) (kind : served (read m).kind ≡ true) (row : row_holds own (read m) ≡ true) where
-  pub client-at : {p s n : ℕ} → only_of 1 m ≡ At p s n → ClientAt m s n
+  pub client-at : {p s n : ℕ} → only_of 1 m ≡ Some (spot p s n) → ClientAt m s n
   unfolding read client_stretch
   client-at {p} {s} {n} h =
       let l = only_at 1 m h in
@@ -108,10 +108,10 @@ module _ (own : Duid) (m : List ℕ) (kind : served (read m).kind ≡ true) (row
 
 -- ---------------------------------------------------------------- the IA_PD
 
-module _ (m : List ℕ) {p s n : ℕ} (h : only_of 25 m ≡ At p s n) where
+module _ (m : List ℕ) {p s n : ℕ} (h : only_of 25 m ≡ Some (spot p s n)) where
   pub pd-formed : well_formed m ≡ true → PdFormed m s n
-  pd-formed good = formed-pd m good 0 (ap (λ l. get_or l 0 Nothing) (only_at 25 m h))
+  pd-formed good = formed-pd m good 0 (ap (λ l. get_or l 0 None) (only_at 25 m h))
 
-  pub pd-is : ia_of (read m) ≡ ia_at m (At 0 s n)
+  pub pd-is : ia_of (read m) ≡ ia_at m (Some (spot 0 s n))
   unfolding read
   pd-is = rw (only_at 25 m h) (ia-place m p s n)

@@ -6,7 +6,7 @@ ghost use Rattle.rules.specs.Words.{part, same_bytes};
 ghost use Rattle.rules.specs.Message.{ia_at, read, well_formed};
 ghost use Rattle.rules.specs.Identity.{kind_of, row_holds};
 ghost use Rattle.rules.specs.Box.{wrong_pds};
-ghost use Rattle.rules.specs.declared.Found.TheVariants.{At};
+ghost use Rattle.rules.specs.Options.{spot};
 ghost use Rattle.laws.specs.Formed.{PdFormed};
 ghost use Rattle.values.specs.Values.{first_listed, ia_of};
 ghost use Rattle.notes.specs.Noted.{IsNote, Noted};
@@ -14,7 +14,7 @@ ghost use Rattle.heard.specs.Heard.{only_of, bare, bare_ia, AskedPd};
 ghost use Rattle.heard.specs.Ids.{id_wanted, id_good, ids_hold};
 
 use notes::{Note, Notes};
-use rules::{Found, Kind, Step};
+use rules::{Kind, Spot, Step};
 use values::{IaPrefix, Pd};
 use wire::content::{prefix_at, u32_at};
 use wire::find::{count_of, find};
@@ -41,23 +41,23 @@ const ROWS: [[bool; 2]; 9] = [
 ];
 
 // The one option of a code in the message's own area, by the note of it.
-fn one(msg: &[u8], x: Note, code: usize) -> Found
+fn one(msg: &[u8], x: Note, code: usize) -> Option<Spot>
     requires { IsNote code msg.now x }
     ensures { result ≡ only_of code msg.now }
 {
     if x.count != 1 {
-        return Found::Nothing;
+        return None;
     }
     let first = x.first;
     first
 }
 
 // The same where there is no note.
-pub fn only(msg: &[u8], code: usize) -> Found
+pub fn only(msg: &[u8], code: usize) -> Option<Spot>
     ensures { result ≡ only_of code msg.now }
 {
     if count_of(msg, 4, msg.len(), code) != 1 {
-        return Found::Nothing;
+        return None;
     }
     find(msg, 4, msg.len(), code, 0)
 }
@@ -84,7 +84,7 @@ fn no_prefix() -> IaPrefix {
 // The IA Prefixes of an IA_PD, read in one walk: no more than five, for five are too many.
 fn prefixes_in(msg: &[u8], start: usize, len: usize) -> Prefixes
     requires { PdFormed msg.now start len }
-    ensures { (ltb 4 result.count ≡ ltb 4 (length (ia_at msg.now (At 0 start len)).listed)) × (result.count ≤ 4 → first_listed result.count result.prefixes ≡ map bare (ia_at msg.now (At 0 start len)).listed) }
+    ensures { (ltb 4 result.count ≡ ltb 4 (length (ia_at msg.now (Some (spot 0 start len))).listed)) × (result.count ≤ 4 → first_listed result.count result.prefixes ≡ map bare (ia_at msg.now (Some (spot 0 start len))).listed) }
 {
     let none = no_prefix();
     let mut prefixes = [none; 5];
@@ -118,7 +118,7 @@ fn prefixes_in(msg: &[u8], start: usize, len: usize) -> Prefixes
 // The IA_PD with that content: its numbers and its prefixes, without Status Codes.
 fn pd_at(msg: &[u8], start: usize, len: usize) -> Pd
     requires { PdFormed msg.now start len }
-    ensures { (ltb 4 result.count ≡ ltb 4 (length (ia_at msg.now (At 0 start len)).listed)) × (result.count ≤ 4 → ia_of result ≡ bare_ia (ia_at msg.now (At 0 start len))) }
+    ensures { (ltb 4 result.count ≡ ltb 4 (length (ia_at msg.now (Some (spot 0 start len))).listed)) × (result.count ≤ 4 → ia_of result ≡ bare_ia (ia_at msg.now (Some (spot 0 start len)))) }
 {
     let listed = prefixes_in(msg, start, len);
     let count = listed.count;
@@ -179,12 +179,8 @@ fn ids_hold(msg: &[u8], own: &[u8], kind: usize, id: usize, x: Note) -> bool
         return x.count == 0;
     }
     match one(msg, x, id + 1) {
-        Found::At {
-            place: _,
-            start,
-            len,
-        } => id_good(msg, own, id, start, len),
-        Found::Nothing => false,
+        Some(o) => id_good(msg, own, id, o.start, o.len),
+        None => false,
     }
 }
 
@@ -237,18 +233,14 @@ pub fn asked_pd(msg: &[u8], x: Note) -> Question
     ensures { (result.wrong ≡ wrong_pds (read msg.now)) × (result.wrong ≡ false → AskedPd msg.now result.pd) }
 {
     match one(msg, x, 25) {
-        Found::At {
-            place: _,
-            start,
-            len,
-        } => {
-            let pd = pd_at(msg, start, len);
+        Some(o) => {
+            let pd = pd_at(msg, o.start, o.len);
             Question {
                 wrong: 4 < pd.count,
                 pd,
             }
         }
-        Found::Nothing => Question {
+        None => Question {
             wrong: true,
             pd: no_pd(),
         },

@@ -2,7 +2,7 @@
 --   Accepted, accepted    every test of the box fails
 --   asker-good, ..        the asker's identity, the records that are left, the table after
 --   answer-sendable       the answer has an encoding and at most 442 bytes
-use Rattle.std.specs.Prelude.{◌≡◌, true, false, not, List, [], ◌∷◌, map, ℕ, ◌≤◌, ◌<◌, ◌^◌, eqb, leb, get_or}
+use Rattle.std.specs.Prelude.{◌≡◌, true, false, not, List, [], ◌∷◌, map, ℕ, ◌≤◌, ◌<◌, ◌^◌, eqb, leb, get_or, None, Option, Some}
 use Rattle.std.proofs.Common.{arith}
 use Rattle.std.proofs.Math.ListN.{length}
 use borrow.Author.Tests.{leb-true, ltb-false, lt-ltb, not-false}
@@ -14,8 +14,8 @@ use Rattle.rules.specs.Identity.{good_identity, served, row_holds, kind_of, is_r
 use Rattle.rules.specs.Settings.{Settings}
 use Rattle.rules.specs.Table.{Record, Table, live, current, sound}
 use Rattle.rules.specs.Box.{Asked, client_of, ia_of, asked_by, serving, table_after, answer_after, wrong_pds, is_silence, box_tests, box_answer, box_handle}
-use Rattle.rules.specs.declared.Found.{Found}
-use Rattle.rules.specs.declared.Found.TheVariants.{At, Nothing}
+use Rattle.rules.specs.declared.Spot.{Spot}
+use Rattle.rules.specs.Options.{spot}
 use Rattle.laws.specs.Tests.{both, both-made}
 use Rattle.laws.specs.Kinds.{row-one-client}
 use Rattle.laws.specs.Refusals.{unless-done, in-time}
@@ -65,11 +65,11 @@ accepted {T} {T'} {now} {m} {a} {room} e =
 -- ---------------------------------------------------------------- the asker
 
 -- an IAID that is read has 32 bits
-iaid-fits : (m : List ℕ) (l : List Found) → (get_or (map (ia_at m) l) 0 (record { iaid = 0; t1 = 0; t2 = 0; listed = []; statuses = [] })).iaid < 2 ^ 32
+iaid-fits : (m : List ℕ) (l : List (Option Spot)) → (get_or (map (ia_at m) l) 0 (record { iaid = 0; t1 = 0; t2 = 0; listed = []; statuses = [] })).iaid < 2 ^ 32
 unfolding ia_at
 iaid-fits m [] = omega arith
-iaid-fits m (At p s n ∷ l) = num_at-fits m s 4
-iaid-fits m (Nothing ∷ l) = omega arith
+iaid-fits m (Some o ∷ l) = num_at-fits m o.start 4
+iaid-fits m (None ∷ l) = omega arith
 
 pub asked-iaid : (m : List ℕ) → (ia_of (read m)).iaid < 2 ^ 32
 unfolding read

@@ -3,7 +3,7 @@
 --   lone-round, -round    a reader on what a writer gives; each reader and its writer
 --   Alone, lone-done      what a reader's success says
 --   lone_same, -unique    a text of bytes that reads is the option with what was read
-use Rattle.std.specs.Prelude.{◌≡◌, refl, Bool, true, false, not, ◌&&◌, ◌||◌, List, [], ◌∷◌, ℕ, suc, ◌+◌, ◌-◌, ◌*◌, ◌≤◌, ◌^◌, eqb, leb, ltb, length, get_or}
+use Rattle.std.specs.Prelude.{◌≡◌, refl, Bool, true, false, not, ◌&&◌, ◌||◌, List, [], ◌∷◌, ℕ, suc, ◌+◌, ◌-◌, ◌*◌, ◌≤◌, ◌^◌, eqb, leb, ltb, length, get_or, Err, Ok, is_ok}
 use Rattle.std.proofs.Common.{ap, sym, ◌∙◌, append-nil, arith, eq-eqb, le-ltb, eqb-true, leb-true, ltb-true, ltb-false}
 use Rattle.std.proofs.lemmas.Bool.{not-false}
 use Rattle.std.proofs.Math.Arith.{digits_div, digits_mod}
@@ -11,13 +11,12 @@ use Rattle.std.proofs.Math.Seq.{take-length}
 use Rattle.rules.specs.Words.{all, part, num, be16, num_at, u16_at}
 use Rattle.rules.specs.Refusals.{done, wrong_size}
 use Rattle.rules.specs.Prefix.{Prefix, exclude_bytes, encodable, lease_encodable, content_ok, unpacked}
-use Rattle.rules.specs.Options.{own, exclude_ok, is_good, content, option}
+use Rattle.rules.specs.Options.{own, exclude_ok, content, option}
 use Rattle.rules.specs.Message.{Listed, Ia, status_at, listed_at, ia_at, codes, asks67, listed_bytes, ia_bytes}
 use Rattle.rules.specs.Lone.{reader_tests, alone, only, lone, read_id, read_request, read_status, read_pd, read_prefix, read_exclude}
 use Rattle.rules.specs.Lone.{writer_tests, write, write_id, write_request, write_status, write_exclude, listed_encodes, ia_encodes, write_prefix, write_pd}
 use Rattle.rules.specs.declared.Level.{Level}
 use Rattle.rules.specs.declared.Level.TheVariants.{Top, InPd, InPrefix}
-use Rattle.rules.specs.declared.Checked.TheVariants.{Good}
 use Rattle.laws.specs.Tests.{both, neither}
 use Rattle.laws.specs.Parts.{part-cons}
 use Rattle.laws.specs.Numbers.{Bytes, bytes-part, num_at-is}
@@ -50,7 +49,7 @@ text-length {w = w} {s = s} r = ap length r.text ∙ option-length w s
 -- the option of code w with the content s, where it is good and reads as a
 module _ {A : Type 0} (l : Level) (w : ℕ) (s : List ℕ) (value : List ℕ → A) {a : A} {b : Bool} {t : List ℕ} where
   pub lone-round : Wrote b w s t → length t ≤ 1232
-      → (Stands (option w s) 4 s → own l (option w s) 0 0 w 4 (length s) ≡ Good)
+      → (Stands (option w s) 4 s → own l (option w s) 0 0 w 4 (length s) ≡ Ok tt)
       → (Stands (option w s) 4 s → length (option w s) ≡ 4 + length s → value (option w s) ≡ a)
       → lone l w value t ≡ done a
   lone-round r size good is =
@@ -142,14 +141,14 @@ pub record Alone {A : Type 0} (l : Level) (w : ℕ) (value : List ℕ → A) (t 
   pub most : length t ≤ 1232
   pub code : u16_at t 0 ≡ w
   pub fills : 4 + u16_at t 2 ≡ length t
-  pub good : own l t 0 0 w 4 (u16_at t 2) ≡ Good
+  pub good : own l t 0 0 w 4 (u16_at t 2) ≡ Ok tt
   pub read : value t ≡ a
 
 pub lone-done : {A : Type 0} (l : Level) (w : ℕ) (value : List ℕ → A) (t : List ℕ) {a : A} → lone l w value t ≡ done a → Alone l w value t a
 lone-done l w value t {a} h =
     let u = unless-done (reader_tests t (alone l w t)) h in
     let z = neither (ltb (length t) 4) (ltb 1232 (length t)) u.0.0 in
-    let x = both (eqb (u16_at t 0) w && eqb (4 + u16_at t 2) (length t)) (is_good (own l t 0 0 w 4 (u16_at t 2))) (not-false (alone l w t) u.0.1.0) in
+    let x = both (eqb (u16_at t 0) w && eqb (4 + u16_at t 2) (length t)) (is_ok (own l t 0 0 w 4 (u16_at t 2))) (not-false (alone l w t) u.0.1.0) in
     let y = both (eqb (u16_at t 0) w) (eqb (4 + u16_at t 2) (length t)) x.0 in
     record {
       least = ltb-false _ _ z.0;

@@ -4,7 +4,7 @@
 --   -well                      what stands printed is good
 --   -found                     what is read where something stands printed is what was printed
 --   -length                    how long what is printed is
-use Rattle.std.specs.Prelude.{◌≡◌, Bool, true, false, cond, eqb, leb, ltb, length, get_or, Option, None, Some}
+use Rattle.std.specs.Prelude.{◌≡◌, Bool, true, false, cond, eqb, leb, ltb, length, get_or, Option, None, Some, Err, Ok, is_ok}
 use Rattle.std.proofs.Math.Path.{refl, ap}
 use Rattle.std.proofs.Common.{sym, ◌∙◌, arith, length-append}
 use mathlib.Core.List.{List, [], ◌∷◌, ◌++◌, map, append-nil, map-id}
@@ -12,14 +12,13 @@ use Prim.Native.Nat.{ℕ, ◌+◌, ◌-◌, ◌^◌, ◌≤◌, ◌<◌}
 use borrow.Author.Tests.{le-leb, lt-ltb, leb-true, ltb-true}
 use Rattle.rules.specs.Words.{any, be, be16, num_at}
 use Rattle.rules.specs.Prefix.{Prefix, prefix, fits, bytes_for, packed, exclude_bytes, encodable, unpacked, lease_encodable}
-use Rattle.rules.specs.Options.{area_of, scan, wants, exclude_ok, in_prefix, check_prefix, in_pd, check_pd, in_top, own, check, is_good}
+use Rattle.rules.specs.Options.{area_of, scan, wants, exclude_ok, in_prefix, check_prefix, in_pd, check_pd, in_top, own, check}
 use Rattle.rules.specs.Options.{options, nth, content, Item, item, printed}
 use Rattle.rules.specs.Message.{Listed, Ia, Message, status_at, except_at, listed_at, ia_at, codes, asks67, top, read, well_formed}
 use Rattle.rules.specs.Message.{name_of, status_item, except_items, listed_bytes, listed_item, ia_bytes, asks_items, items, print}
-use Rattle.rules.specs.declared.Found.{Found}
-use Rattle.rules.specs.declared.Found.TheVariants.{At, Nothing}
-use Rattle.rules.specs.declared.Checked.{Checked}
-use Rattle.rules.specs.declared.Checked.TheVariants.{Good}
+use Rattle.rules.specs.declared.Spot.{Spot}
+use Rattle.rules.specs.Options.{spot}
+use Rattle.rules.specs.Options.{Checked}
 use Rattle.laws.specs.Tests.{both}
 use Rattle.laws.specs.Numbers.{length-be}
 use Rattle.laws.specs.Every.{Every, every, every-weaker}
@@ -58,13 +57,13 @@ listed-fits x f =
 
 -- ---------------------------------------------------------------- contents as they are, and Status Codes
 
-contents-found : (m : List ℕ) (l : List (List ℕ)) (fs : List Found) → Match m fs (map (λ c. c) l ++ []) → map (content m) fs ≡ l
+contents-found : (m : List ℕ) (l : List (List ℕ)) (fs : List (Option Spot)) → Match m fs (map (λ c. c) l ++ []) → map (content m) fs ≡ l
 contents-found m l fs h = match-values m (λ c. c) (content m) l (every (λ c p s t. stands-part t refl) l) fs (rw append-nil at h)
 
 abbrev pub status_bytes : ℕ → List ℕ
 status_bytes k = be16 k ++ name_of k
 
-pub status-good : (k p : ℕ) → wants (leb 2 (length (status_bytes k))) p ≡ Good
+pub status-good : (k p : ℕ) → wants (leb 2 (length (status_bytes k))) p ≡ Ok tt
 status-good k p = rw (le-leb 2 (length (status_bytes k)) (omega arith))
 
 -- at every level
@@ -72,7 +71,7 @@ statuses-well : (m : List ℕ) (own : ℕ → ℕ → ℕ → ℕ → ℕ → Ch
     → (l : List ℕ) (k : ℕ) → Well m own k (map status_item l)
 statuses-well m own e l k = well-map m status_bytes own 13 k l (every (λ x j p q t. e j p q (length (status_bytes x)) ∙ status-good x p) l)
 
-statuses-found : (m : List ℕ) (l : List ℕ) (fs : List Found) → Match m fs (map status_bytes l) → map (status_at m) fs ≡ l
+statuses-found : (m : List ℕ) (l : List ℕ) (fs : List (Option Spot)) → Match m fs (map status_bytes l) → map (status_at m) fs ≡ l
 statuses-found m l fs h = match-values m status_bytes (status_at m) l (every (λ k p s t. stands-u16 k t) l) fs h
 
 -- ---------------------------------------------------------------- PD Exclude
@@ -121,12 +120,12 @@ except-items a None = refl
 except-items a (Some e) = refl
 
 except-found : (m : List ℕ) (p : Prefix) (o : Option Prefix) → lease_encodable p o ≡ true
-    → (fs : List Found) → Match m fs (except_bytes p.length o) → except_at m p (get_or fs 0 Nothing) ≡ o
+    → (fs : List (Option Spot)) → Match m fs (except_bytes p.length o) → except_at m p (get_or fs 0 None) ≡ o
 except-found m p None f [] h = refl
 except-found m p None f (x ∷ fs) h = absurd h
 except-found m p (Some e) f [] h = absurd h
-except-found m p (Some e) f (Nothing ∷ fs) h = absurd h.0
-except-found m p (Some e) f (At r s n ∷ fs) h = rw h.0.1 (ap Some (exclude-found p e (both (fits p) (encodable p e) f).1 h.0.0))
+except-found m p (Some e) f (None ∷ fs) h = absurd h.0
+except-found m p (Some e) f (Some o ∷ fs) h = rw h.0.1 (ap Some (exclude-found p e (both (fits p) (encodable p e) f).1 h.0.0))
 
 -- ---------------------------------------------------------------- an IA Prefix
 
@@ -170,7 +169,7 @@ module _ {m : List ℕ} {s : ℕ} (x : Listed) (f : FineListed x) (h : Stands m 
       well-append m (in_prefix m x.lease.prefix.length) 0 (except_items x.lease.prefix.length x.lease.except) (map status_item x.statuses)
       (except-well m x.lease.prefix x.lease.except f.encodes) (statuses-well m (in_prefix m x.lease.prefix.length) (λ k p q n. refl) x.statuses)
 
-  pub listed-well : (k p : ℕ) → in_pd m k p 26 s (length (listed_bytes x)) ≡ Good
+  pub listed-well : (k p : ℕ) → in_pd m k p 26 s (length (listed_bytes x)) ≡ Ok tt
   unfolding check_prefix
   listed-well k p =
       rw (
@@ -181,7 +180,7 @@ module _ {m : List ℕ} {s : ℕ} (x : Listed) (f : FineListed x) (h : Stands m 
       )
       (well (in_prefix m x.lease.prefix.length) 0 (listed_items x) listed-items-well listed-25)
 
-  pub listed_found : (p : ℕ) → listed_at m (At p s (length (listed_bytes x))) ≡ x
+  pub listed_found : (p : ℕ) → listed_at m (Some (spot p s (length (listed_bytes x)))) ≡ x
   unfolding listed_at listed_bytes
   listed_found p =
       let os = placed (s + 25) (listed_items x) in
@@ -235,11 +234,11 @@ module _ {m : List ℕ} {s : ℕ} (i : Ia) (f : FineIa i) (h : Stands m s (ia_by
       (well-map m listed_bytes (in_pd m) 26 0 i.listed (every-weaker (λ x g k p q t. listed-well x g t k p) i.listed f.listed))
       (statuses-well m (in_pd m) (λ k p q n. refl) i.statuses)
 
-  pub ia-well : (k p : ℕ) → in_top m k p 25 s (length (ia_bytes i)) ≡ Good
+  pub ia-well : (k p : ℕ) → in_top m k p 25 s (length (ia_bytes i)) ≡ Ok tt
   unfolding check_pd
   ia-well k p = rw (le-leb 12 (length (ia_bytes i)) (omega (arith, ia-length i)), ia-area) (well (in_pd m) 0 (ia_items i) ia-items-well ia-12)
 
-  pub ia-found : (p : ℕ) → ia_at m (At p s (length (ia_bytes i))) ≡ i
+  pub ia-found : (p : ℕ) → ia_at m (Some (spot p s (length (ia_bytes i)))) ≡ i
   unfolding ia_at ia_bytes
   ia-found p =
       let os = placed (s + 12) (ia_items i) in
@@ -319,13 +318,13 @@ module _ (v : Message) where
 
   pub print-well : Fine v → well_formed (print v) ≡ true
   unfolding well_formed check own top
-  print-well f = ap is_good (ap (scan (in_top (print v)) 0) print-top ∙ well (in_top (print v)) 0 (items v) (items-well (print v) f.ias) print-4)
+  print-well f = ap is_ok (ap (scan (in_top (print v)) 0) print-top ∙ well (in_top (print v)) 0 (items v) (items-well (print v) f.ias) print-4)
 
   pub print-read : Fine v → read (print v) ≡ v
   unfolding read
   print-read f =
       let m = print v in
-      let fs : ℕ → List Found = λ w. options w (placed 4 (items v)) in
+      let fs : ℕ → List (Option Spot) = λ w. options w (placed 4 (items v)) in
       let h : (w : ℕ) → Match m (fs w) (bytes_of w (items v)) = λ w. match w (items v) print-4 in
       let i = match-values m ia_bytes (ia_at m) v.ias (every-weaker (λ i g p q t. ia-found i g t p) v.ias f.ias)
       (fs 25) (rw (items-bytes 25) at (h 25)) in

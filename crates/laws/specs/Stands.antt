@@ -6,7 +6,7 @@
 --   Match, match           the places found hold these contents; so they do where the options are printed
 --   Well, well             each option is good wherever it stands; then so is their area
 --   match-values           what is read at the places is what was printed there
-use Rattle.std.specs.Prelude.{◌≡◌, refl, Bool, true, false, cond, List, [], ◌∷◌, ◌++◌, map, ℕ, ◌+◌, ◌-◌, ◌*◌, ◌%◌, ◌^◌, ◌≤◌, ◌<◌, eqb, length, get_or, take, drop}
+use Rattle.std.specs.Prelude.{◌≡◌, refl, Bool, true, false, cond, List, [], ◌∷◌, ◌++◌, map, ℕ, ◌+◌, ◌-◌, ◌*◌, ◌%◌, ◌^◌, ◌≤◌, ◌<◌, eqb, length, get_or, take, drop, Err, None, Ok, Option, Some}
 use Rattle.std.proofs.Math.Path.{ap}
 use Rattle.std.proofs.Common.{sym, ◌∙◌, append_assoc, append-nil, add-zero, mod-eq_of_lt, arith, le-leb, le-ltb, length-append, get_or-drop, drop-drop}
 use Rattle.std.proofs.lemmas.Bool.{lt-leb}
@@ -14,10 +14,9 @@ use Rattle.std.proofs.Math.Seq.{drop-append_seam, take_at}
 use Rattle.rules.specs.Words.{cons_if, part, num, be, be16, num_at, u16_at}
 use Rattle.rules.specs.Options.{step_at, Area, over, opt, area_of, and_then, scan, options, option, Item, item, printed}
 use Rattle.rules.specs.declared.Step.TheVariants.{Opt, End}
-use Rattle.rules.specs.declared.Found.{Found}
-use Rattle.rules.specs.declared.Found.TheVariants.{At, Nothing}
-use Rattle.rules.specs.declared.Checked.{Checked}
-use Rattle.rules.specs.declared.Checked.TheVariants.{Good}
+use Rattle.rules.specs.declared.Spot.{Spot}
+use Rattle.rules.specs.Options.{spot}
+use Rattle.rules.specs.Options.{Checked}
 use Rattle.laws.specs.Numbers.{length-be, num-be-fits}
 use Rattle.laws.specs.Walk.{area-at}
 use Rattle.laws.specs.Every.{Every}
@@ -140,17 +139,17 @@ pub bytes-block : {A : Type 0} (w c : ℕ) (g : A → List ℕ) (l : List A) (r 
 bytes-block w c g l r = rw (bytes-append w (map (λ x. item c (g x)) l) r, bytes-map w c g l)
 
 -- the places hold these contents
-abbrev pub Holds : List ℕ → Found → List ℕ → Type 0
-Holds m (At p s n) c = Stands m s c × (n ≡ length c)
-Holds m Nothing c = ⊥
+abbrev pub Holds : List ℕ → Option Spot → List ℕ → Type 0
+Holds m (Some o) c = Stands m o.start c × (o.len ≡ length c)
+Holds m None c = ⊥
 
-abbrev pub Match : List ℕ → List Found → List (List ℕ) → Type 0
+abbrev pub Match : List ℕ → List (Option Spot) → List (List ℕ) → Type 0
 Match m [] [] = Unit {0}
 Match m [] (c ∷ cs) = ⊥
 Match m (f ∷ fs) [] = ⊥
 Match m (f ∷ fs) (c ∷ cs) = Holds m f c × Match m fs cs
 
-match-if : (b : Bool) (m : List ℕ) (f : Found) (c : List ℕ) (fs : List Found) (cs : List (List ℕ))
+match-if : (b : Bool) (m : List ℕ) (f : Option Spot) (c : List ℕ) (fs : List (Option Spot)) (cs : List (List ℕ))
     → Holds m f c → Match m fs cs → Match m (cons_if b f fs) (cons_if b c cs)
 match-if true m f c fs cs h t = (h, t)
 match-if false m f c fs cs h t = t
@@ -160,19 +159,19 @@ unfolding printed placed options bytes_of
 match w [] h = tt
 match {m} {at} w (item c s ∷ r) h =
     let k = stands-option c s (printed r) h in
-    match-if (eqb c w) m (At at (at + 4) (length s)) s (options w (placed (at + 4 + length s) r)) (bytes_of w r) (k.here, refl) (match {at = at + 4 + length s} w r k.next)
+    match-if (eqb c w) m (Some (spot at (at + 4) (length s))) s (options w (placed (at + 4 + length s) r)) (bytes_of w r) (k.here, refl) (match {at = at + 4 + length s} w r k.next)
 
 -- ---------------------------------------------------------------- well formed
 
 abbrev pub WellAt : List ℕ → (ℕ → ℕ → ℕ → ℕ → ℕ → Checked) → ℕ → Item → Type 0
-WellAt m own k (item c s) = (p q : ℕ) → Stands m q s → own k p c q (length s) ≡ Good
+WellAt m own k (item c s) = (p q : ℕ) → Stands m q s → own k p c q (length s) ≡ Ok tt
 
 abbrev pub Well : List ℕ → (ℕ → ℕ → ℕ → ℕ → ℕ → Checked) → ℕ → List Item → Type 0
 Well m own k [] = Unit {0}
 Well m own k (item c s ∷ r) = WellAt m own k (item c s) × Well m own (cond (eqb c 67) (k + 1) k) r
 
 pub well : {m : List ℕ} {at : ℕ} (own : ℕ → ℕ → ℕ → ℕ → ℕ → Checked) (k : ℕ) (os : List Item)
-    → Well m own k os → Stands m at (printed os) → scan own k (placed at os) ≡ Good
+    → Well m own k os → Stands m at (printed os) → scan own k (placed at os) ≡ Ok tt
 unfolding printed placed scan
 well own k [] g h = refl
 well {m} {at} own k (item c s ∷ r) g h =
@@ -194,10 +193,10 @@ module _ {A : Type 0} (m : List ℕ) (g : A → List ℕ) where
   well-map own c k [] h = tt
   well-map own c k (x ∷ l) h = (h.0 k, well-map own c (cond (eqb c 67) (k + 1) k) l h.1)
 
-  pub match-values : (value : Found → A) (l : List A) → Every (λ x. (p s : ℕ) → Stands m s (g x) → value (At p s (length (g x))) ≡ x) l
-      → (fs : List Found) → Match m fs (map g l) → map value fs ≡ l
+  pub match-values : (value : Option Spot → A) (l : List A) → Every (λ x. (p s : ℕ) → Stands m s (g x) → value (Some (spot p s (length (g x)))) ≡ x) l
+      → (fs : List (Option Spot)) → Match m fs (map g l) → map value fs ≡ l
   match-values value [] e [] h = refl
   match-values value [] e (f ∷ fs) h = absurd h
   match-values value (x ∷ l) e [] h = absurd h
-  match-values value (x ∷ l) e (Nothing ∷ fs) h = absurd h.0
-  match-values value (x ∷ l) e (At p s n ∷ fs) h = rw (h.0.1, e.0 p s h.0.0, match-values value l e.1 fs h.1)
+  match-values value (x ∷ l) e (None ∷ fs) h = absurd h.0
+  match-values value (x ∷ l) e (Some o ∷ fs) h = rw (h.0.1, e.0 o.place o.start h.0.0, match-values value l e.1 fs h.1)

@@ -1,14 +1,13 @@
 -- Laws of the walk over an option area: `area-at` unfolds an area by one step, whatever the fuel.
-use Rattle.std.specs.Prelude.{◌≡◌, refl, ℕ, zero, suc, ◌+◌, ◌-◌, ◌≤◌, ◌<◌, List, [], ◌∷◌, Bool, true, false, cond, ltb, leb, eqb, get_or}
+use Rattle.std.specs.Prelude.{◌≡◌, refl, ℕ, zero, suc, ◌+◌, ◌-◌, ◌≤◌, ◌<◌, List, [], ◌∷◌, Bool, true, false, cond, ltb, leb, eqb, get_or, Err, None, Ok, Option, Some}
 use Rattle.std.proofs.Math.Path.{ap}
+use Rattle.std.proofs.lemmas.Option.{same_Some}
 use Rattle.std.proofs.Common.{sym, ◌∙◌, arith, sub-one, leb-false, ltb-false}
 use Rattle.rules.specs.Words.{u16_at, cons_if}
-use Rattle.rules.specs.Options.{step_at, opt, grow, walk, area_of, and_then, scan, options, nth}
+use Rattle.rules.specs.Options.{step_at, opt, grow, walk, area_of, and_then, Checked, scan, options, nth, spot}
+use Rattle.rules.specs.declared.Spot.{Spot}
 use Rattle.rules.specs.declared.Step.{Step}
 use Rattle.rules.specs.declared.Step.TheVariants.{Opt, End, Bad}
-use Rattle.rules.specs.declared.Found.TheVariants.{At, Nothing}
-use Rattle.rules.specs.declared.Checked.{Checked}
-use Rattle.rules.specs.declared.Checked.TheVariants.{Good, Broken}
 
 abbrev step_by : Bool → Bool → Bool → List ℕ → ℕ → ℕ → Step
 step_by a b d m at e = cond a End (cond b (Bad at) (cond d (Bad at) (Opt (u16_at m at) (at + 4) (u16_at m (at + 2)) (at + 4 + u16_at m (at + 2)))))
@@ -65,11 +64,11 @@ area-at m at e h = area-step m at e ∙ ap (grow (λ x. area_of m x e) at) h
 
 -- what a loop over an area needs: one law for each way a turn goes
 module _ (own : ℕ → ℕ → ℕ → ℕ → ℕ → Checked) (k : ℕ) (m : List ℕ) (at e : ℕ) where
-  pub scan-end : step_at m at e ≡ End → scan own k (area_of m at e) ≡ Good
+  pub scan-end : step_at m at e ≡ End → scan own k (area_of m at e) ≡ Ok tt
   unfolding scan
   scan-end h = ap (scan own k) (area-at m at e h)
 
-  pub scan-bad : {p : ℕ} → step_at m at e ≡ Bad p → scan own k (area_of m at e) ≡ Broken p
+  pub scan-bad : {p : ℕ} → step_at m at e ≡ Bad p → scan own k (area_of m at e) ≡ Err p
   unfolding scan
   scan-bad h = ap (scan own k) (area-at m at e h)
 
@@ -83,28 +82,34 @@ pub get_or-next : {A : Type 0} (x : A) (l : List A) (k : ℕ) (d : A) → (k ≡
 get_or-next x l zero d h = absurd (h refl)
 get_or-next x l (suc k) d h = rw sub-one
 
+-- the same option, part by part
+pub same-spot : {p s n q t l : ℕ} → ◌≡◌ {A = Option Spot} (Some (spot p s n)) (Some (spot q t l)) → (p ≡ q) × (s ≡ t) × (n ≡ l)
+same-spot {p} {s} {n} {q} {t} {l} e =
+    let f = same_Some (spot p s n) (spot q t l) e in
+    (ap (λ (o : Spot). o.place) f, ap (λ (o : Spot). o.start) f, ap (λ (o : Spot). o.len) f)
+
 -- each option that an area has lies inside it
 nth_here : (b : Bool) (f w k : ℕ) (m : List ℕ) (at e : ℕ) {c s n x : ℕ} {q t l : ℕ} → Inside m at e c s n x
-    → ((j : ℕ) → get_or (options w (walk f m x e)) j Nothing ≡ At q t l → t + l ≤ e)
-    → get_or (cons_if b (At at s n) (options w (walk f m x e))) k Nothing ≡ At q t l → t + l ≤ e
+    → ((j : ℕ) → get_or (options w (walk f m x e)) j None ≡ Some (spot q t l) → t + l ≤ e)
+    → get_or (cons_if b (Some (spot at s n)) (options w (walk f m x e))) k None ≡ Some (spot q t l) → t + l ≤ e
 nth_here false f w k m at e i ih h = ih k h
-nth_here true f w zero m at e {s = s} {n = n} {t = t} {l = l} i ih h = let p : s ≡ t = cc in let q : n ≡ l = cc in omega arith
+nth_here true f w zero m at e i ih h = let p = same-spot h in omega arith
 nth_here true f w (suc k) m at e i ih h = ih k h
 
 nth-step : (f w k : ℕ) (m : List ℕ) (at e : ℕ) (st : Step) {q t l : ℕ} → step_at m at e ≡ st
-    → ((x j : ℕ) → get_or (options w (walk f m x e)) j Nothing ≡ At q t l → t + l ≤ e)
-    → get_or (options w (grow (λ x. walk f m x e) at st)) k Nothing ≡ At q t l → t + l ≤ e
+    → ((x j : ℕ) → get_or (options w (walk f m x e)) j None ≡ Some (spot q t l) → t + l ≤ e)
+    → get_or (options w (grow (λ x. walk f m x e) at st)) k None ≡ Some (spot q t l) → t + l ≤ e
 unfolding options
 nth-step f w k m at e End g ih h = let z : ◌≡◌ {A = ℕ} 0 1 = cc in absurd (omega arith)
 nth-step f w k m at e (Bad p) g ih h = let z : ◌≡◌ {A = ℕ} 0 1 = cc in absurd (omega arith)
 nth-step f w k m at e (Opt c s n x) g ih h = nth_here (eqb c w) f w k m at e (step-inside m at e g) (ih x) h
 
-walk-nth : (f w k : ℕ) (m : List ℕ) (at e : ℕ) {q t l : ℕ} → get_or (options w (walk f m at e)) k Nothing ≡ At q t l → t + l ≤ e
+walk-nth : (f w k : ℕ) (m : List ℕ) (at e : ℕ) {q t l : ℕ} → get_or (options w (walk f m at e)) k None ≡ Some (spot q t l) → t + l ≤ e
 unfolding options walk
 walk-nth zero w k m at e h = let z : ◌≡◌ {A = ℕ} 0 1 = cc in absurd (omega arith)
 walk-nth (suc f) w k m at e h = nth-step f w k m at e (step_at m at e) refl (λ x j. walk-nth f w j m x e) h
 
-pub nth_inside : (w k : ℕ) (m : List ℕ) (at e : ℕ) {q t l : ℕ} → nth w k (area_of m at e) ≡ At q t l → t + l ≤ e
+pub nth_inside : (w k : ℕ) (m : List ℕ) (at e : ℕ) {q t l : ℕ} → nth w k (area_of m at e) ≡ Some (spot q t l) → t + l ≤ e
 unfolding area_of
 nth_inside w k m at e h = walk-nth (suc (e - at)) w k m at e h
 
@@ -117,6 +122,6 @@ module _ (w : ℕ) (m : List ℕ) (at e : ℕ) where
   unfolding options
   options-bad h = ap (options w) (area-at m at e h)
 
-  pub options-opt : {c s n x : ℕ} → step_at m at e ≡ Opt c s n x → options w (area_of m at e) ≡ cons_if (eqb c w) (At at s n) (options w (area_of m x e))
+  pub options-opt : {c s n x : ℕ} → step_at m at e ≡ Opt c s n x → options w (area_of m at e) ≡ cons_if (eqb c w) (Some (spot at s n)) (options w (area_of m x e))
   unfolding options
   options-opt h = ap (options w) (area-at m at e h)

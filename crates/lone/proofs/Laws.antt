@@ -5,7 +5,7 @@
 use mathlib.Core.Path.{◌≡◌, refl, sym, ap, ◌∙◌}
 use mathlib.Core.Bool.{Bool, true, false, cond, not, ◌&&◌}
 use mathlib.Core.List.{List}
-use Rattle.std.specs.Prelude.{None, Some}
+use Rattle.std.specs.Prelude.{None, Some, Err, Ok, Option, is_ok}
 use Prim.Native.Nat.{ℕ, ◌+◌, ◌-◌, ◌≤◌}
 use native.Mathlib.Omega.{arith}
 use lib.Dec.{eqb, ltb}
@@ -14,13 +14,12 @@ use borrow.Author.Tests.{eqb-true, ltb-false}
 use Rattle.rules.specs.Words.{num, num_at, u16_at}
 use Rattle.rules.specs.Refusals.{refuse, done, wrong_size}
 use Rattle.rules.specs.Prefix.{Prefix, prefix, unpacked}
-use Rattle.rules.specs.Options.{area_of, own, is_good, count, nth}
+use Rattle.rules.specs.Options.{area_of, own, count, nth}
 use Rattle.rules.specs.Message.{except_at, ia_at, well_formed}
 use Rattle.rules.specs.Lone.{alone, only, lone, read_message, Summary, summary}
 use Rattle.rules.specs.declared.Level.{Level}
-use Rattle.rules.specs.declared.Found.{Found}
-use Rattle.rules.specs.declared.Found.TheVariants.{At}
-use Rattle.rules.specs.declared.Checked.TheVariants.{Good}
+use Rattle.rules.specs.declared.Spot.{Spot}
+use Rattle.rules.specs.Options.{spot}
 use Rattle.laws.specs.Tests.{both, neither}
 use Rattle.laws.specs.Told.{is-good}
 use Rattle.values.specs.Values.{except_of}
@@ -54,7 +53,7 @@ module _ (l : Level) (w : ℕ) (m : List ℕ) {n : ℕ} (q : n ≡ lone_refusal 
 
 pub record Alone (l : Level) (w : ℕ) (m : List ℕ) : Type 0 where
   pub long : 4 ≤ length m
-  pub good : own l m 0 0 w 4 (length m - 4) ≡ Good
+  pub good : own l m 0 0 w 4 (length m - 4) ≡ Ok tt
 
 none_said : (s g : Bool) {n : ℕ} → n ≡ cond s 3 (cond g 0 5) → n ≡ 0 → (s ≡ false) × (g ≡ true)
 none_said true g q h = absurd (omega arith)
@@ -65,7 +64,7 @@ pub alone-is : (l : Level) (w : ℕ) (m : List ℕ) {n : ℕ} → n ≡ lone_ref
 unfolding lone_refusal
 alone-is l w m q h =
     let s = none_said (wrong_size m) (alone l w m) q h in
-    let a = both (eqb (u16_at m 0) w && eqb (4 + u16_at m 2) (length m)) (is_good (own l m 0 0 w 4 (u16_at m 2))) s.1 in
+    let a = both (eqb (u16_at m 0) w && eqb (4 + u16_at m 2) (length m)) (is_ok (own l m 0 0 w 4 (u16_at m 2))) s.1 in
     let b = both (eqb (u16_at m 0) w) (eqb (4 + u16_at m 2) (length m)) a.0 in
     let f : 4 + u16_at m 2 ≡ length m = eqb-true (4 + u16_at m 2) (length m) b.1 in
     let e : u16_at m 2 ≡ length m - 4 = omega arith in
@@ -77,14 +76,14 @@ except-some : (b : ℕ) (o : List ℕ) (t : Bool) {x : Prefix} → cond t None (
 except-some b o true h = let z : ◌≡◌ {A = ℕ} 0 1 = cc in absurd (omega arith)
 except-some b o false h = cc
 
-pub exclude-read : (m : List ℕ) (p : Prefix) (b : ℕ) (o : List ℕ) → except_of b o ≡ except_at m p (At 0 4 (length m - 4))
+pub exclude-read : (m : List ℕ) (p : Prefix) (b : ℕ) (o : List ℕ) → except_of b o ≡ except_at m p (Some (spot 0 4 (length m - 4)))
     → prefix (num o) b ≡ unpacked p (get_or m 4 0) (num_at m 5 (length m - 5))
 unfolding except_of
 exclude-read m p b o h =
     let e : length m - 4 - 1 ≡ length m - 5 = omega arith in
     except-some b o (eqb b 0) (h ∙ ap (λ (n : ℕ). Some (unpacked p (get_or m 4 0) (num_at m 5 n))) e)
 
-pub pd-read : (m : List ℕ) → 4 ≤ length m → {i a b n : ℕ} {f : Found} → i ≡ num_at m 4 4 → a ≡ num_at m 8 4 → b ≡ num_at m 12 4 → n ≡ count 26 (area_of m 16 (length m))
+pub pd-read : (m : List ℕ) → 4 ≤ length m → {i a b n : ℕ} {f : Option Spot} → i ≡ num_at m 4 4 → a ≡ num_at m 8 4 → b ≡ num_at m 12 4 → n ≡ count 26 (area_of m 16 (length m))
     → f ≡ nth 26 0 (area_of m 16 (length m)) → ◌≡◌ {A = PdHead} (record { iaid = i; t1 = a; t2 = b; prefixes = n; first = f }) (pd_head m (ia_at m (only m)))
 unfolding ia_at
 pd-read m h p q r s t =

@@ -3,7 +3,7 @@
 --   id_value, ..       an answer as the refusal or the value that rules/Lone gives
 --   id_fills, ExcludeRest, PrefixRest    what else there is in an answer: a stretch's place, and what stands beside a refusal
 --   PdHead, pd_head    what is answered of an IA_PD
-use Rattle.std.specs.Prelude.{ℕ, ◌+◌, ◌≡◌, List, Bool, true, cond, ◌&&◌, ◌⊎◌, eqb, length, replicate}
+use Rattle.std.specs.Prelude.{ℕ, ◌+◌, ◌≡◌, List, Bool, true, cond, ◌&&◌, ◌⊎◌, eqb, length, replicate, Option}
 use Rattle.rules.specs.Words.{part, num}
 use Rattle.rules.specs.Refusals.{Res, refuse, done, wrong_size}
 use Rattle.rules.specs.Prefix.{Prefix, prefix}
@@ -11,7 +11,7 @@ use Rattle.rules.specs.Options.{area_of, nth}
 use Rattle.rules.specs.Message.{Listed, Ia}
 use Rattle.rules.specs.Lone.{alone, Summary}
 use Rattle.rules.specs.declared.Level.{Level}
-use Rattle.rules.specs.declared.Found.{Found}
+use Rattle.rules.specs.declared.Spot.{Spot}
 use Rattle.values.specs.Values.{listed_of}
 use Rattle.values.specs.declared.IaPrefix.{IaPrefix}
 use Rattle.lone.specs.declared.IdRead as id
@@ -77,7 +77,7 @@ pub record PdHead : Type 0 where
   pub t1 : ℕ
   pub t2 : ℕ
   pub prefixes : ℕ
-  pub first : Found
+  pub first : Option Spot
 
 abbrev pub pd_head : List ℕ → Ia → PdHead
 pd_head m i = record { iaid = i.iaid; t1 = i.t1; t2 = i.t2; prefixes = length i.listed; first = nth 26 0 (area_of m 16 (length m)) }

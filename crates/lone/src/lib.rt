@@ -9,7 +9,7 @@ ghost use Rattle.rules.specs.Message.{listed_at};
 ghost use Rattle.rules.specs.Lone.{alone, only, read_id, read_request, read_status, read_exclude, read_prefix, read_pd, read_message};
 ghost use Rattle.lone.specs.Answers.{lone_refusal, id_value, id_fills, request_value, status_value, exclude_value, ExcludeRest, prefix_value, PrefixRest, pd_value, pd_head, projected, message_value};
 
-use rules::{Checked, Found, Level};
+use rules::{Level, Spot};
 use values::IaPrefix;
 use wire::check::check_one;
 use wire::walk::{u8_at, u16_at};
@@ -61,7 +61,7 @@ pub enum PdRead {
         t1: u32,
         t2: u32,
         prefixes: usize,
-        first: Found,
+        first: Option<Spot>,
     },
 }
 
@@ -73,11 +73,11 @@ pub enum MessageRead {
         kind: usize,
         number: u32,
         clients: usize,
-        client: Found,
+        client: Option<Spot>,
         servers: usize,
-        server: Found,
+        server: Option<Spot>,
         pds: usize,
-        pd: Found,
+        pd: Option<Spot>,
     },
 }
 
@@ -101,8 +101,8 @@ fn alone(text: &[u8], l: Level, w: usize) -> bool
         return false;
     }
     match check_one(text, l, 0, 0, w, 4, len) {
-        Checked::Good => true,
-        Checked::Broken(_) => false,
+        Ok(()) => true,
+        Err(_) => false,
     }
 }
 

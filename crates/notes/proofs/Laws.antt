@@ -4,6 +4,7 @@
 --   Walked, -      what is noted at a place of the walk
 --   heard-         a message walked to its end, or not well formed
 --   noted-         the Client ID's stretch
+use Rattle.std.specs.Prelude.{Err, None, Ok, Option, Some, is_ok}
 use mathlib.Core.Path.{◌≡◌, refl, sym, ap, ◌∙◌}
 use mathlib.Core.Bool.{Bool, true, false, cond, not, ◌&&◌, ◌||◌, and-false, or-false, or-true}
 use mathlib.Core.List.{List, [], ◌∷◌}
@@ -14,14 +15,13 @@ use lib.Dec.{eqb, leb, ltb}
 use lib.ListN.{length, get_or}
 use Rattle.rules.specs.Words.{any, cons_if, part}
 use Rattle.rules.specs.Refusals.{wrong_size}
-use Rattle.rules.specs.Options.{Area, over, stop, opt, step_at, area_of, wants, scan, and_then, own, check, is_good, options, content}
+use Rattle.rules.specs.Options.{Area, over, stop, opt, step_at, area_of, wants, scan, and_then, own, check, options, content}
 use Rattle.rules.specs.Message.{asks67, top, read, well_formed}
 use Rattle.rules.specs.declared.Level.TheVariants.{Top}
 use Rattle.rules.specs.declared.Step.TheVariants.{End, Bad}
-use Rattle.rules.specs.declared.Found.{Found}
-use Rattle.rules.specs.declared.Found.TheVariants.{At, Nothing}
-use Rattle.rules.specs.declared.Checked.{Checked}
-use Rattle.rules.specs.declared.Checked.TheVariants.{Good, Broken}
+use Rattle.rules.specs.declared.Spot.{Spot}
+use Rattle.rules.specs.Options.{spot}
+use Rattle.rules.specs.Options.{Checked}
 use Rattle.laws.specs.Tests.{false-true, neither}
 use Rattle.laws.specs.Steps.{Stepped, ended, any-hit, any-miss, any-stop, any-map}
 use Rattle.laws.specs.Walk.{nth_inside, scan-opt, scan-end, scan-bad, options-opt}
@@ -34,38 +34,38 @@ use Rattle.notes.specs.Noted.{note_on, is_counted, empty, notes, IsNote, Noted, 
 -- ---------------------------------------------------------------- the options of one code
 
 -- of the options l, with r still to come
-pub record SoFar (l r : List Found) (x : Note) : Type 0 where
+pub record SoFar (l r : List (Option Spot)) (x : Note) : Type 0 where
   pub counted : length l ≡ x.count + length r
-  pub before : x.count ≡ 0 → (x.first ≡ Nothing) × (get_or l 0 Nothing ≡ get_or r 0 Nothing)
-  pub after : (x.count ≡ 0 → ⊥) → x.first ≡ get_or l 0 Nothing
+  pub before : x.count ≡ 0 → (x.first ≡ None) × (get_or l 0 None ≡ get_or r 0 None)
+  pub after : (x.count ≡ 0 → ⊥) → x.first ≡ get_or l 0 None
 
-so-start : (l : List Found) → SoFar l l empty
+so-start : (l : List (Option Spot)) → SoFar l l empty
 so-start l = record { counted = omega arith; before = λ h. (refl, refl); after = λ h. absurd (h refl) }
 
-so-end : (l : List Found) (x : Note) → SoFar l [] x → (x.count ≡ length l) × (x.first ≡ get_or l 0 Nothing)
+so-end : (l : List (Option Spot)) (x : Note) → SoFar l [] x → (x.count ≡ length l) × (x.first ≡ get_or l 0 None)
 so-end l x h = (omega (arith, h.counted), by x.count refl)
   where
-    by : (k : ℕ) → x.count ≡ k → x.first ≡ get_or l 0 Nothing
+    by : (k : ℕ) → x.count ≡ k → x.first ≡ get_or l 0 None
     by zero q = (h.before q).0 ∙ sym (h.before q).1
     by (suc k) q = h.after (λ z. omega arith)
 
-so-found : (l r : List Found) (f : Found) (x : Note) → SoFar l (f ∷ r) x → SoFar l r (record { count = x.count + 1; first = cond (eqb x.count 0) f x.first })
+so-found : (l r : List (Option Spot)) (f : Option Spot) (x : Note) → SoFar l (f ∷ r) x → SoFar l r (record { count = x.count + 1; first = cond (eqb x.count 0) f x.first })
 so-found l r f x h = record {
   counted = omega (arith, h.counted);
   before = λ z. absurd (omega arith);
   after = λ z. by x.count refl;
 }
   where
-    by : (k : ℕ) → x.count ≡ k → cond (eqb x.count 0) f x.first ≡ get_or l 0 Nothing
+    by : (k : ℕ) → x.count ≡ k → cond (eqb x.count 0) f x.first ≡ get_or l 0 None
     by zero q = rw (eq-eqb x.count 0 q) (sym (h.before q).1)
     by (suc k) q = let n : x.count ≡ 0 → ⊥ = λ z. omega arith in rw (ne_eqb x.count 0 n) (h.after n)
 
-so-next : (w p c s n : ℕ) (l r : List Found) (x : Note) → SoFar l (cons_if (eqb c w) (At p s n) r) x → SoFar l r (note_on w p c s n x)
+so-next : (w p c s n : ℕ) (l r : List (Option Spot)) (x : Note) → SoFar l (cons_if (eqb c w) (Some (spot p s n)) r) x → SoFar l r (note_on w p c s n x)
 unfolding note_on
 so-next w p c s n l r x h = by (eqb c w) h
   where
-    by : (b : Bool) → SoFar l (cons_if b (At p s n) r) x → SoFar l r (cond b (record { count = x.count + 1; first = cond (eqb x.count 0) (At p s n) x.first }) x)
-    by true h = so-found l r (At p s n) x h
+    by : (b : Bool) → SoFar l (cons_if b (Some (spot p s n)) r) x → SoFar l r (cond b (record { count = x.count + 1; first = cond (eqb x.count 0) (Some (spot p s n)) x.first }) x)
+    by true h = so-found l r (Some (spot p s n)) x h
     by false h = h
 
 -- as code notes it: an option of another code, the first of this one, a later one
@@ -74,7 +74,7 @@ module _ (w p c s n : ℕ) (x : Note) where
   unfolding note_on
   note-past h = rw (ne_eqb c w h)
 
-  pub note-first : c ≡ w → x.count ≡ 0 → record { count = 1; first = At p s n } ≡ note_on w p c s n x
+  pub note-first : c ≡ w → x.count ≡ 0 → record { count = 1; first = Some (spot p s n) } ≡ note_on w p c s n x
   unfolding note_on
   note-first h z = rw (eq-eqb c w h, eq-eqb x.count 0 z, z)
 
@@ -93,26 +93,26 @@ scan-any m k j (opt p c s n r) = ap (and_then (own Top m 0 p c s n)) (scan-any m
 
 -- one option there, as code judges it
 module _ (m : List ℕ) (p c s n : ℕ) where
-  pub good-request : c ≡ 6 → eqb (n % 2) 0 ≡ is_good (own Top m 0 p c s n)
+  pub good-request : c ≡ 6 → eqb (n % 2) 0 ≡ is_ok (own Top m 0 p c s n)
   unfolding own
   good-request h = rw h (by (eqb (n % 2) 0))
     where
-      by : (b : Bool) → b ≡ is_good (wants b p)
+      by : (b : Bool) → b ≡ is_ok (wants b p)
       by true = refl
       by false = refl
 
-  pub good-other : (c ≡ 25 → ⊥) → (c ≡ 6 → ⊥) → not (eqb c 13) || leb 2 n ≡ is_good (own Top m 0 p c s n)
+  pub good-other : (c ≡ 25 → ⊥) → (c ≡ 6 → ⊥) → not (eqb c 13) || leb 2 n ≡ is_ok (own Top m 0 p c s n)
   unfolding own
   good-other h g = rw (ne_eqb c 25 h, ne_eqb c 6 g) (by (eqb c 13) (leb 2 n))
     where
-      by : (b d : Bool) → not b || d ≡ is_good (cond b (wants d p) Good)
+      by : (b d : Bool) → not b || d ≡ is_ok (cond b (wants d p) (Ok tt))
       by true true = refl
       by true false = refl
       by false d = refl
 
-is-good : (r : Checked) → is_good r ≡ true → r ≡ Good
-is-good Good h = refl
-is-good (Broken p) h = absurd (false-true h)
+is-good : (r : Checked) → is_ok r ≡ true → r ≡ Ok tt
+is-good (Ok u) h = refl
+is-good (Err p) h = absurd (false-true h)
 
 -- a message that isn't well formed, or isn't walked
 abbrev unheard : Notes
@@ -121,7 +121,7 @@ unheard = notes false empty empty empty false
 not_noted : (m : List ℕ) → not (wrong_size m) && well_formed m ≡ false → Heard m unheard
 not_noted m h = record { formed = sym h; noted = λ z. absurd (false-true z) }
 
-not-formed : (m : List ℕ) → is_good (scan (own Top m) 0 (area_of m 4 (length m))) ≡ false → Heard m unheard
+not-formed : (m : List ℕ) → is_ok (scan (own Top m) 0 (area_of m 4 (length m))) ≡ false → Heard m unheard
 unfolding well_formed check
 not-formed m h = not_noted m (rw h (and-false (not (wrong_size m))))
 
@@ -131,11 +131,11 @@ heard-size m h = not_noted m (rw h)
 pub size_fits : (m : List ℕ) → wrong_size m ≡ false → length m ≤ 1232
 size_fits m h = ltb-false 1232 (length m) (neither (ltb (length m) 4) (ltb 1232 (length m)) h).1
 
-then-bad : (r t : Checked) → is_good r ≡ false → is_good (and_then r t) ≡ false
-then-bad Good t h = absurd (false-true (sym h))
-then-bad (Broken p) t h = refl
+then-bad : (r t : Checked) → is_ok r ≡ false → is_ok (and_then r t) ≡ false
+then-bad (Ok u) t h = absurd (false-true (sym h))
+then-bad (Err p) t h = refl
 
-abbrev asks_at : List ℕ → Found → Bool
+abbrev asks_at : List ℕ → Option Spot → Bool
 asks_at m f = asks67 (content m f)
 
 -- a code that isn't counted is none of the three
@@ -168,7 +168,7 @@ module _ (m : List ℕ) where
     unfolding note_on
     left_step w y g = (so-next w p c s n (options w (rest 4)) (options w (rest x)) y (rw (options-opt w m p (length m) h.is) at g.0), by (eqb c w))
       where
-        by : (b : Bool) → (cond b (record { count = y.count + 1; first = cond (eqb y.count 0) (At p s n) y.first }) y).count ≤ x
+        by : (b : Bool) → (cond b (record { count = y.count + 1; first = cond (eqb y.count 0) (Some (spot p s n)) y.first }) y).count ≤ x
         by true = omega (arith, h, g.1)
         by false = omega (arith, h, g.1)
 
@@ -180,11 +180,11 @@ module _ (m : List ℕ) where
         by false q = g ∙ rw (any-miss (asks_at m) 6 h q refl, or-false a)
 
     module _ {client server pd : Note} {asks : Bool} (g : Walked p client server pd asks) where
-      pub heard-bad : is_good (own Top m 0 p c s n) ≡ false → Heard m unheard
+      pub heard-bad : is_ok (own Top m 0 p c s n) ≡ false → Heard m unheard
       heard-bad k =
           not-formed m (rw (g.good, scan-opt (own Top m) 0 m p (length m) h.is refl) (then-bad (own Top m 0 p c s n) (scan (own Top m) (cond (eqb c 67) 1 0) (rest x)) k))
 
-      module _ (k : is_good (own Top m 0 p c s n) ≡ true) {asks' : Bool} (q : asks' ≡ asks || (eqb c 6 && asks67 (part s n m))) where
+      module _ (k : is_ok (own Top m 0 p c s n) ≡ true) {asks' : Bool} (q : asks' ≡ asks || (eqb c 6 && asks67 (part s n m))) where
         pub walked-counted : {a b d : Note} → a ≡ note_on 1 p c s n client → b ≡ note_on 2 p c s n server → d ≡ note_on 25 p c s n pd → Walked x a b d asks'
         walked-counted ea eb ed = record {
           clients = rw ea (left_step 1 client g.clients);
@@ -235,10 +235,10 @@ module _ (m : List ℕ) (x : Note) (h : IsNote 1 m x) where
   unfolding top
   noted_other n = client-other m h.counts n
 
-  pub noted_one : x.count ≡ 1 → {f : Found} → x.first ≡ f → content m f ≡ client_stretch m
+  pub noted_one : x.count ≡ 1 → {f : Option Spot} → x.first ≡ f → content m f ≡ client_stretch m
   unfolding top
   noted_one q g = client-one m h.counts q (sym g ∙ h.begins)
 
-  pub noted-inside : {p s n : ℕ} → x.first ≡ At p s n → s + n ≤ length m
+  pub noted-inside : {p s n : ℕ} → x.first ≡ Some (spot p s n) → s + n ≤ length m
   unfolding top
   noted-inside g = nth_inside 1 0 m 4 (length m) (sym h.begins ∙ g)

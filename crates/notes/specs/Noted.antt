@@ -1,11 +1,11 @@
 -- What a walk over a message notes.
 --   note_on, is_counted      one more option of a code; which codes are counted
 --   IsNote, Noted, Heard   the notes of a whole message
-use Rattle.std.specs.Prelude.{ℕ, ◌+◌, ◌≡◌, Bool, true, cond, not, ◌&&◌, ◌||◌, List, eqb}
+use Rattle.std.specs.Prelude.{ℕ, ◌+◌, ◌≡◌, Bool, true, cond, not, ◌&&◌, ◌||◌, List, eqb, None, Some}
 use Rattle.rules.specs.Refusals.{wrong_size}
 use Rattle.rules.specs.Options.{count, nth}
 use Rattle.rules.specs.Message.{top, read, well_formed}
-use Rattle.rules.specs.declared.Found.TheVariants.{At, Nothing}
+use Rattle.rules.specs.Options.{spot}
 use Rattle.notes.specs.declared.Note.{Note}
 use Rattle.notes.specs.declared.Notes.{Notes}
 
@@ -13,7 +13,7 @@ use Rattle.notes.specs.declared.Notes.{Notes}
 unfoldable pub note_on : ℕ → ℕ → ℕ → ℕ → ℕ → Note → Note
 note_on w p c s n x =
     cond (eqb c w)
-    (record { count = x.count + 1; first = cond (eqb x.count 0) (At p s n) x.first })
+    (record { count = x.count + 1; first = cond (eqb x.count 0) (Some (spot p s n)) x.first })
     x
 
 -- Client IDs, Server IDs, IA_PDs
@@ -21,7 +21,7 @@ unfoldable pub is_counted : ℕ → Bool
 is_counted c = eqb c 1 || eqb c 2 || eqb c 25
 
 abbrev pub empty : Note
-empty = record { count = 0; first = Nothing }
+empty = record { count = 0; first = None }
 
 abbrev pub notes : Bool → Note → Note → Note → Bool → Notes
 notes f c s p a = record { formed = f; client = c; server = s; pd = p; asks = a }

@@ -1,16 +1,16 @@
 // What one walk over a message notes for every question that is asked of it.
 #![tactic(auto)]
 
-ghost use Rattle.std.specs.Prelude.{◌≡◌, true, false, ◌&&◌, ◌||◌, ◌+◌, ◌≤◌, ◌<◌, ◌^◌, eqb, length};
+ghost use Rattle.std.specs.Prelude.{◌≡◌, true, false, ◌&&◌, ◌||◌, ◌+◌, ◌≤◌, ◌<◌, ◌^◌, eqb, length, is_ok};
 ghost use Rattle.rules.specs.Words.{part};
 ghost use Rattle.rules.specs.Refusals.{wrong_size};
-ghost use Rattle.rules.specs.Options.{own, is_good};
+ghost use Rattle.rules.specs.Options.{own};
 ghost use Rattle.rules.specs.Message.{asks67};
 ghost use Rattle.rules.specs.declared.Level.TheVariants.{Top};
 ghost use Rattle.wire.specs.Client.{client_stretch};
 ghost use Rattle.notes.specs.Noted.{note_on, is_counted, notes, empty, IsNote, Heard};
 
-use rules::{Checked, Found, Level, Step};
+use rules::{Level, Spot, Step};
 use wire::check::check_one;
 use wire::says::asks67;
 use wire::walk::step_at;
@@ -19,7 +19,7 @@ use wire::walk::step_at;
 #[derive(Clone, Copy)]
 pub struct Note {
     pub count: usize,
-    pub first: Found,
+    pub first: Option<Spot>,
 }
 
 // A message's Client IDs, Server IDs and IA_PDs, whether an Option Request has code 67, and whether the message is well formed:
@@ -39,7 +39,7 @@ fn nothing() -> Note
 {
     Note {
         count: 0,
-        first: Found::Nothing,
+        first: None,
     }
 }
 
@@ -54,7 +54,7 @@ fn one_more(x: Note, w: usize, place: usize, code: usize, start: usize, len: usi
     if x.count == 0 {
         return Note {
             count: 1,
-            first: Found::At { place, start, len },
+            first: Some(Spot { place, start, len }),
         };
     }
     let first = x.first;
@@ -78,12 +78,12 @@ fn asking(msg: &[u8], asks: bool, code: usize, start: usize, len: usize) -> bool
 // Whether an option is good where it stands.
 fn good(msg: &[u8], place: usize, code: usize, start: usize, len: usize) -> bool
     requires { start + len ≤ length msg.now }
-    ensures { result ≡ is_good (own Top msg.now 0 place code start len) }
+    ensures { result ≡ is_ok (own Top msg.now 0 place code start len) }
 {
     if code == 25 {
         return match check_one(msg, Level::Top, 0, place, code, start, len) {
-            Checked::Good => true,
-            Checked::Broken(_) => false,
+            Ok(()) => true,
+            Err(_) => false,
         };
     }
     if code == 6 {
@@ -185,11 +185,7 @@ pub fn client_of(msg: &[u8], x: Note) -> &[u8]
     }
     let first = x.first;
     match first {
-        Found::At {
-            place: _,
-            start,
-            len,
-        } => &msg[start..start + len],
-        Found::Nothing => &msg[..0],
+        Some(o) => &msg[o.start..o.start + o.len],
+        None => &msg[..0],
     }
 }

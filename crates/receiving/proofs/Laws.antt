@@ -2,7 +2,7 @@
 use mathlib.Core.Path.{◌≡◌, refl, sym, ap, ◌∙◌}
 use mathlib.Core.Bool.{Bool, true, false, cond, not, ◌&&◌, ◌||◌}
 use mathlib.Core.List.{List, [], ◌∷◌, map}
-use Rattle.std.specs.Prelude.{Option, None, Some}
+use Rattle.std.specs.Prelude.{Option, None, Some, Err, Ok}
 use Prim.Native.Nat.{ℕ, suc, ◌+◌, ◌-◌, ◌*◌, ◌^◌, ◌≤◌, ◌<◌}
 use native.Mathlib.Omega.{arith}
 use native.Mathlib.Nat.{add-sub_cancel_left}
@@ -22,9 +22,8 @@ use Rattle.rules.specs.RouterBytes.{held_bytes, router_bytes, router_of}
 use Rattle.rules.specs.Lent.{Ended, ended, settle, no_text, router_received}
 use Rattle.rules.specs.declared.Kind.{Kind}
 use Rattle.rules.specs.declared.Kind.TheVariants.{Solicit, Request, Renew, Rebind, Release}
-use Rattle.rules.specs.declared.Checked.TheVariants.{Good}
-use Rattle.rules.specs.declared.Found.{Found}
-use Rattle.rules.specs.declared.Found.TheVariants.{At, Nothing}
+use Rattle.rules.specs.declared.Spot.{Spot}
+use Rattle.rules.specs.Options.{spot}
 use Rattle.laws.specs.Tests.{both, neither, false-true}
 use Rattle.laws.specs.Refusals.{none-applies, number-refused, unless-made}
 use Rattle.laws.specs.Every.{Every}
@@ -62,29 +61,29 @@ pub takes-read : (x : IaPrefix) {z : Bool} → z ≡ zero_after (prefix (num x.b
 unfolding listed_of lease_of
 takes-read x e = rw e
 
-module _ (m : List ℕ) {f : Found} where
-  pub taken-found : (x : IaPrefix) {p s n : ℕ} {r : Bool} → f ≡ At p s n → listed_of x (listed_at m (At 0 s n)).statuses ≡ listed_at m (At 0 s n)
+module _ (m : List ℕ) {f : Option Spot} where
+  pub taken-found : (x : IaPrefix) {p s n : ℕ} {r : Bool} → f ≡ Some (spot p s n) → listed_of x (listed_at m (Some (spot 0 s n))).statuses ≡ listed_at m (Some (spot 0 s n))
       → r ≡ takes (listed_of x []) → r ≡ takes (listed_at m f)
   unfolding listed_of
   taken-found x {p} {s} {n} e q g = g ∙ ap takes (q ∙ sym (listed-place m p s n)) ∙ ap (λ h. takes (listed_at m h)) (sym e)
 
-  pub taken-nothing : f ≡ Nothing → false ≡ takes (listed_at m f)
+  pub taken-nothing : f ≡ None → false ≡ takes (listed_at m f)
   unfolding listed_at
   taken-nothing e = rw e
 
-  pub listed_found : {p s n : ℕ} → f ≡ At p s n → ListedIn m f → PrefixFormed m s n
+  pub listed_found : {p s n : ℕ} → f ≡ Some (spot p s n) → ListedIn m f → PrefixFormed m s n
   listed_found e h = (rw e at h)
 
-pub found-listed : (m : List ℕ) (s n k : ℕ) (f : Found) → PdFormed m s n → f ≡ nth 26 k (area_of m (s + 12) (s + n)) → ListedIn m f
-found-listed m s n k (At p t l) h q = formed-prefix m s n h k (sym q)
-found-listed m s n k Nothing h q = tt
+pub found-listed : (m : List ℕ) (s n k : ℕ) (f : Option Spot) → PdFormed m s n → f ≡ nth 26 k (area_of m (s + 12) (s + n)) → ListedIn m f
+found-listed m s n k (Some o) h q = formed-prefix m s n h k (sym q)
+found-listed m s n k None h q = tt
 
 -- what is still to be looked at
 module _ (m : List ℕ) (s n : ℕ) where
-  abbrev fs : List Found
+  abbrev fs : List (Option Spot)
   fs = options 26 (area_of m (s + 12) (s + n))
 
-  abbrev pub first_left : ℕ → Found
+  abbrev pub first_left : ℕ → Option Spot
   first_left k = first_found (λ f. takes (listed_at m f)) (drop k fs)
 
   pub left-start : first_left 0 ≡ taken_in m s n
@@ -92,40 +91,40 @@ module _ (m : List ℕ) (s n : ℕ) where
   left-start = refl
 
   module _ (k : ℕ) {c : ℕ} (ec : c ≡ length fs) where
-    module _ {f : Found} {r : Bool} (h : k < c) (found : f ≡ get_or fs k Nothing) (test : r ≡ takes (listed_at m f)) where
+    module _ {f : Option Spot} {r : Bool} (h : k < c) (found : f ≡ get_or fs k None) (test : r ≡ takes (listed_at m f)) where
       pub left-hit : r ≡ true → first_left k ≡ f
-      left-hit e = rw (drop-turn fs k ec Nothing h found, ← test, e)
+      left-hit e = rw (drop-turn fs k ec None h found, ← test, e)
 
       pub left-miss : r ≡ false → first_left k ≡ first_left (k + 1)
-      left-miss e = rw (drop-turn fs k ec Nothing h found, ← test, e)
+      left-miss e = rw (drop-turn fs k ec None h found, ← test, e)
 
-    pub left_end : c ≤ k → first_left k ≡ Nothing
+    pub left_end : c ≤ k → first_left k ≡ None
     left_end h = rw (drop-end fs k ec h)
 
 -- what is found stands in the list
-first-at : (f : Found → Bool) (l : List Found) {p s n : ℕ} → first_found f l ≡ At p s n → (k : ℕ) × (get_or l k Nothing ≡ At p s n)
+first-at : (f : Option Spot → Bool) (l : List (Option Spot)) {p s n : ℕ} → first_found f l ≡ Some (spot p s n) → (k : ℕ) × (get_or l k None ≡ Some (spot p s n))
 first-at f [] h = let z : ◌≡◌ {A = ℕ} 0 1 = cc in absurd (omega arith)
 first-at f (x ∷ l) {p} {s} {n} h = by (f x) h (first-at f l)
   where
-    by : (b : Bool) → cond b x (first_found f l) ≡ At p s n → (first_found f l ≡ At p s n → (k : ℕ) × (get_or l k Nothing ≡ At p s n)) → (k : ℕ) × (get_or (x ∷ l) k Nothing ≡ At p s n)
+    by : (b : Bool) → cond b x (first_found f l) ≡ Some (spot p s n) → (first_found f l ≡ Some (spot p s n) → (k : ℕ) × (get_or l k None ≡ Some (spot p s n))) → (k : ℕ) × (get_or (x ∷ l) k None ≡ Some (spot p s n))
     by true h ih = (0, h)
     by false h ih = let r = ih h in (suc r.0, r.1)
 
 -- what was found, as it is read
-abbrev taken_as : List ℕ → Found → Option Listed
-taken_as m (At p s n) = Some (listed_at m (At p s n))
-taken_as m Nothing = None
+abbrev taken_as : List ℕ → Option Spot → Option Listed
+taken_as m (Some o) = Some (listed_at m (Some o))
+taken_as m None = None
 
-first-as : (m : List ℕ) (l : List Found) → first takes (map (listed_at m) l) ≡ taken_as m (first_found (λ f. takes (listed_at m f)) l)
+first-as : (m : List ℕ) (l : List (Option Spot)) → first takes (map (listed_at m) l) ≡ taken_as m (first_found (λ f. takes (listed_at m f)) l)
 unfolding listed_at
 first-as m [] = refl
 first-as m (x ∷ l) = by x (takes (listed_at m x)) refl (first-as m l)
   where
-    by : (x : Found) (b : Bool) → takes (listed_at m x) ≡ b → first takes (map (listed_at m) l) ≡ taken_as m (first_found (λ f. takes (listed_at m f)) l)
+    by : (x : Option Spot) (b : Bool) → takes (listed_at m x) ≡ b → first takes (map (listed_at m) l) ≡ taken_as m (first_found (λ f. takes (listed_at m f)) l)
         → cond b (Some (listed_at m x)) (first takes (map (listed_at m) l)) ≡ taken_as m (cond b x (first_found (λ f. takes (listed_at m f)) l))
     by x false q ih = ih
-    by (At p s n) true q ih = refl
-    by Nothing true q ih = absurd (false-true q)
+    by (Some o) true q ih = refl
+    by None true q ih = absurd (false-true q)
 
 -- ---------------------------------------------------------------- its hold
 
@@ -158,34 +157,34 @@ module _ (x : IaPrefix) (began now : ℕ) {e : ℕ} {a : Bool} (ee : e ≡ plus 
   hold-some h q = rw (← ee, ← ea, not-false a h) q
 
 -- an IA Prefix that can be read has an encoding
-pub prefix-encodes : (m : List ℕ) {s n : ℕ} → PrefixFormed m s n → (x : IaPrefix) → listed_of x (listed_at m (At 0 s n)).statuses ≡ listed_at m (At 0 s n) → lease_encodes x ≡ true
+pub prefix-encodes : (m : List ℕ) {s n : ℕ} → PrefixFormed m s n → (x : IaPrefix) → listed_of x (listed_at m (Some (spot 0 s n))).statuses ≡ listed_at m (Some (spot 0 s n)) → lease_encodes x ≡ true
 unfolding listed_of
 prefix-encodes m {s} {n} f x q =
-    let l : lease_of x ≡ (listed_at m (At 0 s n)).lease = ap (λ y. y.lease) q in
-    let g : in_pd m 0 0 26 s n ≡ Good = rw (le-leb 25 n f.long, le-leb (get_or m (s + 8) 0) 128 f.short) f.inner in
-    ap (λ y. lease_encodable y.prefix y.except) l ∙ (listed-fine m (length m) (omega arith) (At 0 s n) (f.within, 0, g)).encodes
+    let l : lease_of x ≡ (listed_at m (Some (spot 0 s n))).lease = ap (λ y. y.lease) q in
+    let g : in_pd m 0 0 26 s n ≡ Ok tt = rw (le-leb 25 n f.long, le-leb (get_or m (s + 8) 0) 128 f.short) f.inner in
+    ap (λ y. lease_encodable y.prefix y.except) l ∙ (listed-fine m (length m) (omega arith) (Some (spot 0 s n)) (f.within, 0, g)).encodes
 
 module _ (m : List ℕ) (s n began now : ℕ) where
   abbrev gives : Option Hold
-  gives = taken now began (first takes (ia_at m (At 0 s n)).listed)
+  gives = taken now began (first takes (ia_at m (Some (spot 0 s n))).listed)
 
-  first_taken : first takes (ia_at m (At 0 s n)).listed ≡ taken_as m (taken_in m s n)
+  first_taken : first takes (ia_at m (Some (spot 0 s n))).listed ≡ taken_as m (taken_in m s n)
   unfolding ia_at taken_in
   first_taken = first-as m (options 26 (area_of m (s + 12) (s + n)))
 
-  pub taken-formed : PdFormed m s n → {p t l : ℕ} → taken_in m s n ≡ At p t l → PrefixFormed m t l
+  pub taken-formed : PdFormed m s n → {p t l : ℕ} → taken_in m s n ≡ Some (spot p t l) → PrefixFormed m t l
   unfolding taken_in
   taken-formed h e = let r = first-at (λ f. takes (listed_at m f)) (options 26 (area_of m (s + 12) (s + n))) e in formed-prefix m s n h r.0 r.1
 
-  pub taken-some : {p t l : ℕ} {r : List ℕ} (x : IaPrefix) → taken_in m s n ≡ At p t l → listed_of x (listed_at m (At 0 t l)).statuses ≡ listed_at m (At 0 t l)
+  pub taken-some : {p t l : ℕ} {r : List ℕ} (x : IaPrefix) → taken_in m s n ≡ Some (spot p t l) → listed_of x (listed_at m (Some (spot 0 t l))).statuses ≡ listed_at m (Some (spot 0 t l))
       → r ≡ held_bytes (held_until now (lease_of x) (plus began x.valid)) → r ≡ held_bytes gives
   unfolding listed_of
   taken-some {p} {t} {l} x e q g =
-      let y : Some (listed_of x (listed_at m (At 0 t l)).statuses) ≡ first takes (ia_at m (At 0 s n)).listed =
+      let y : Some (listed_of x (listed_at m (Some (spot 0 t l))).statuses) ≡ first takes (ia_at m (Some (spot 0 s n))).listed =
       ap Some (q ∙ sym (listed-place m p t l)) ∙ sym (first_taken ∙ ap (taken_as m) e) in
       g ∙ ap (λ o. held_bytes (taken now began o)) y
 
-  pub taken_none : taken_in m s n ≡ Nothing → replicate 43 0 ≡ held_bytes gives
+  pub taken_none : taken_in m s n ≡ None → replicate 43 0 ≡ held_bytes gives
   taken_none e = sym (ap (λ o. held_bytes (taken now began o)) (first_taken ∙ ap (taken_as m) e))
 
 -- ---------------------------------------------------------------- what is held afterwards
@@ -226,14 +225,14 @@ module _ {b m : List ℕ} {k : ℕ} (a : Accepted b m k) where
     held_kept t q = let l : left ≡ (router_of b).held = left_is ∙ rw t in q ∙ ap held_bytes (sym l)
 
     module _ (t : eqb k 1 || eqb k 8 ≡ false) where
-      pub held-taken : {h : List ℕ} {e p s n : ℕ} → e ≡ num_at b 16 8 → only_of 25 m ≡ At p s n → h ≡ held_bytes (taken now e (first takes (ia_at m (At 0 s n)).listed)) → h ≡ held_bytes left
+      pub held-taken : {h : List ℕ} {e p s n : ℕ} → e ≡ num_at b 16 8 → only_of 25 m ≡ Some (spot p s n) → h ≡ held_bytes (taken now e (first takes (ia_at m (Some (spot 0 s n))).listed)) → h ≡ held_bytes left
       unfolding read router_of
       held-taken {e = e} {p} {s} {n} q o g =
-          let i : ia_of (read m) ≡ ia_at m (At 0 s n) = rw (only_at 25 m o) (ia-place m p s n) in
-          let l : left ≡ taken now e (first takes (ia_at m (At 0 s n)).listed) = left_is ∙ rw t (λ j. taken now (sym q j) (first takes (i j).listed)) in
+          let i : ia_of (read m) ≡ ia_at m (Some (spot 0 s n)) = rw (only_at 25 m o) (ia-place m p s n) in
+          let l : left ≡ taken now e (first takes (ia_at m (Some (spot 0 s n))).listed) = left_is ∙ rw t (λ j. taken now (sym q j) (first takes (i j).listed)) in
           g ∙ ap held_bytes (sym l)
 
-      pub held_one : only_of 25 m ≡ Nothing → ⊥
+      pub held_one : only_of 25 m ≡ None → ⊥
       unfolding read
       held_one o =
           let r : is_release (kind_of k) ≡ false = release-type (kind_of k) ∙ ap (λ j. eqb j 8) (sym type-is) ∙ (neither (eqb k 1) (eqb k 8) t).1 in
@@ -259,11 +258,11 @@ module _ (k : ℕ) (m : List ℕ) where
         by true y h = refl
         by false y h = not-false y h
 
-    pub server-told : {p s n : ℕ} → only_of 2 m ≡ At p s n → take (s + n - s) (drop s m) ≡ server_told k m
+    pub server-told : {p s n : ℕ} → only_of 2 m ≡ Some (spot p s n) → take (s + n - s) (drop s m) ≡ server_told k m
     unfolding part
     server-told e = rw (told, e, add-sub_cancel_left)
 
-    pub server-none : only_of 2 m ≡ Nothing → [] ≡ server_told k m
+    pub server-none : only_of 2 m ≡ None → [] ≡ server_told k m
     server-none e = rw (told, e)
 
 -- the Server ID of a message that has one
@@ -272,7 +271,7 @@ unfolding only_of read
 only-content m h =
     let l = options 2 (top m) in
     let c : length l ≡ 1 = sym (length-map l (content m)) ∙ eqb-true _ 1 h in
-    rw (eq-eqb (length l) 1 c) (sym (get_or-map (content m) l 0 Nothing))
+    rw (eq-eqb (length l) 1 c) (sym (get_or-map (content m) l 0 None))
 
 module _ {b m : List ℕ} {k : ℕ} (a : Accepted b m k) where
   abbrev d : Duid

@@ -1,12 +1,12 @@
 -- What receiving judges by, and what it takes of a message.
-use Rattle.std.specs.Prelude.{◌≡◌, Bool, true, cond, not, ◌||◌, List, [], ◌∷◌, ◌++◌, ℕ, ◌+◌, eqb}
+use Rattle.std.specs.Prelude.{◌≡◌, Bool, true, cond, not, ◌||◌, List, [], ◌∷◌, ◌++◌, ℕ, ◌+◌, eqb, None, Option, Some}
 use Rattle.rules.specs.Words.{num_at}
 use Rattle.rules.specs.Options.{area_of, options, content}
 use Rattle.rules.specs.Message.{listed_at, read}
 use Rattle.rules.specs.Router.{awaited, takes}
 use Rattle.rules.specs.RouterBytes.{router_of, sound_router_bytes}
-use Rattle.rules.specs.declared.Found.{Found}
-use Rattle.rules.specs.declared.Found.TheVariants.{At, Nothing}
+use Rattle.rules.specs.declared.Spot.{Spot}
+use Rattle.rules.specs.Options.{spot}
 use Rattle.laws.specs.Refusals.{number}
 use Rattle.laws.specs.Formed.{PrefixFormed}
 use Rattle.heard.specs.Heard.{only_of}
@@ -29,17 +29,17 @@ pub record Accepted (b m : List ℕ) (k : ℕ) : Type 0 where
   pub awaits : awaited (router_of b) m (read m) (router_of b).exchange ≡ true
 
 -- what was found is an IA Prefix that can be read
-abbrev pub ListedIn : List ℕ → Found → Type 0
-ListedIn m (At p s n) = PrefixFormed m s n
-ListedIn m Nothing = Unit {0}
+abbrev pub ListedIn : List ℕ → Option Spot → Type 0
+ListedIn m (Some o) = PrefixFormed m o.start o.len
+ListedIn m None = Unit {0}
 
 -- the first that passes
-abbrev pub first_found : (Found → Bool) → List Found → Found
-first_found f [] = Nothing
+abbrev pub first_found : (Option Spot → Bool) → List (Option Spot) → Option Spot
+first_found f [] = None
 first_found f (x ∷ l) = cond (f x) x (first_found f l)
 
 -- the first IA Prefix that is taken, of those of the IA_PD whose content starts at s
-unfoldable pub taken_in : List ℕ → ℕ → ℕ → Found
+unfoldable pub taken_in : List ℕ → ℕ → ℕ → Option Spot
 taken_in m s n = first_found (λ f. takes (listed_at m f)) (options 26 (area_of m (s + 12) (s + n)))
 
 -- the server that an Advertise or a Rebind's Reply tells; of another exchange nothing

@@ -10,14 +10,14 @@ ghost use Rattle.rules.specs.Box.{ia_of};
 ghost use Rattle.rules.specs.Router.{takes, held_until, taken, held_after};
 ghost use Rattle.rules.specs.RouterBytes.{held_bytes, router_of};
 ghost use Rattle.rules.specs.Lent.{ended, router_received};
-ghost use Rattle.rules.specs.declared.Found.TheVariants.{At};
+ghost use Rattle.rules.specs.Options.{spot};
 ghost use Rattle.laws.specs.Formed.{PdFormed};
 ghost use Rattle.values.specs.Values.{lease_of, lease_encodes, listed_of};
 ghost use Rattle.receiving.specs.Received.{judged, Accepted, ListedIn, taken_in, server_told};
 
 use clock::{Lifetime, Moment};
 use heard::only;
-use rules::Found;
+use rules::Spot;
 use state::judge::by_state;
 use values::IaPrefix;
 use wire::content::prefix_at;
@@ -46,22 +46,18 @@ fn takes(x: IaPrefix) -> bool
 }
 
 // Whether what was found is taken.
-fn is_taken(msg: &[u8], f: Found) -> bool
+fn is_taken(msg: &[u8], f: Option<Spot>) -> bool
     requires { ListedIn msg.now f }
     ensures { result ≡ takes (listed_at msg.now f) }
 {
     match f {
-        Found::At {
-            place: _,
-            start,
-            len,
-        } => takes(prefix_at(msg, start, len)),
-        Found::Nothing => false,
+        Some(o) => takes(prefix_at(msg, o.start, o.len)),
+        None => false,
     }
 }
 
 // The first IA Prefix of the IA_PD with that content that is taken.
-fn first_taken(msg: &[u8], start: usize, len: usize) -> Found
+fn first_taken(msg: &[u8], start: usize, len: usize) -> Option<Spot>
     requires { PdFormed msg.now start len }
     ensures { result ≡ taken_in msg.now start len }
 {
@@ -74,7 +70,7 @@ fn first_taken(msg: &[u8], start: usize, len: usize) -> Found
         }
         k += 1;
     }
-    Found::Nothing
+    None
 }
 
 // The hold on a prefix from the moment of first sending on, if its end is after now.
@@ -94,15 +90,11 @@ fn hold_of(x: IaPrefix, began: u64, time: u64) -> [u8; 43]
 // The hold that the IA_PD with that content gives.
 fn taken(msg: &[u8], start: usize, len: usize, began: u64, time: u64) -> [u8; 43]
     requires { PdFormed msg.now start len × (began < 2 ^ 48) }
-    ensures { result ≡ held_bytes (taken time began (first takes (ia_at msg.now (At 0 start len)).listed)) }
+    ensures { result ≡ held_bytes (taken time began (first takes (ia_at msg.now (Some (spot 0 start len))).listed)) }
 {
     match first_taken(msg, start, len) {
-        Found::At {
-            place: _,
-            start,
-            len,
-        } => hold_of(prefix_at(msg, start, len), began, time),
-        Found::Nothing => [0u8; 43],
+        Some(o) => hold_of(prefix_at(msg, o.start, o.len), began, time),
+        None => [0u8; 43],
     }
 }
 
@@ -116,12 +108,8 @@ fn held_after(t: &[u8], time: u64, msg: &[u8], kind: u64) -> [u8; 43]
     }
     let began = cells::get(t, 16, 8);
     match only(msg, 25) {
-        Found::At {
-            place: _,
-            start,
-            len,
-        } => taken(msg, start, len, began, time),
-        Found::Nothing => [0u8; 43],
+        Some(o) => taken(msg, o.start, o.len, began, time),
+        None => [0u8; 43],
     }
 }
 
@@ -133,12 +121,8 @@ fn server_after(msg: &[u8], kind: u64) -> &[u8]
         return &msg[..0];
     }
     match only(msg, 2) {
-        Found::At {
-            place: _,
-            start,
-            len,
-        } => &msg[start..start + len],
-        Found::Nothing => &msg[..0],
+        Some(o) => &msg[o.start..o.start + o.len],
+        None => &msg[..0],
     }
 }
 

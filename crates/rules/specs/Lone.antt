@@ -1,14 +1,14 @@
 -- The public readers and writers: a whole message, or one option that stands alone and fills its text.
-use Rattle.std.specs.Prelude.{ℕ, ◌+◌, ◌-◌, ◌^◌, Bool, true, not, ◌&&◌, List, [], ◌∷◌, ◌++◌, eqb, leb, ltb, length, get_or}
+use Rattle.std.specs.Prelude.{ℕ, ◌+◌, ◌-◌, ◌^◌, Bool, true, not, ◌&&◌, List, [], ◌∷◌, ◌++◌, eqb, leb, ltb, length, get_or, Option, Some, is_ok}
 use Rattle.rules.specs.Words.{all, be16, num_at, u16_at}
 use Rattle.rules.specs.Refusals.{Res, done, unless, wrong_size}
 use Rattle.rules.specs.Prefix.{Prefix, encodable, lease_encodable, exclude_bytes, unpacked}
-use Rattle.rules.specs.Options.{own, is_good, count, nth, content, option}
+use Rattle.rules.specs.Options.{own, count, nth, content, option}
 use Rattle.rules.specs.Message.{Listed, Ia, status_at, listed_at, ia_at, asks67, top, well_formed, name_of, listed_bytes, ia_bytes}
 use Rattle.rules.specs.declared.Level.{Level}
 use Rattle.rules.specs.declared.Level.TheVariants.{Top, InPd, InPrefix}
-use Rattle.rules.specs.declared.Found.{Found}
-use Rattle.rules.specs.declared.Found.TheVariants.{At}
+use Rattle.rules.specs.declared.Spot.{Spot}
+use Rattle.rules.specs.Options.{spot}
 
 -- ---------------------------------------------------------------- readers
 
@@ -17,11 +17,11 @@ reader_tests m good = (3, wrong_size m) ∷ (5, not good) ∷ []
 
 -- "5 also for another code or a text not filled": the option of code w at that level, and nothing else
 abbrev pub alone : Level → ℕ → List ℕ → Bool
-alone l w m = eqb (u16_at m 0) w && eqb (4 + u16_at m 2) (length m) && is_good (own l m 0 0 w 4 (u16_at m 2))
+alone l w m = eqb (u16_at m 0) w && eqb (4 + u16_at m 2) (length m) && is_ok (own l m 0 0 w 4 (u16_at m 2))
 
 -- the option that fills the text
-abbrev pub only : List ℕ → Found
-only m = At 0 4 (length m - 4)
+abbrev pub only : List ℕ → Option Spot
+only m = Some (spot 0 4 (length m - 4))
 
 abbrev pub lone : {A : Type 0} → Level → ℕ → (List ℕ → A) → List ℕ → Res A
 lone l w value m = unless (reader_tests m (alone l w m)) (done (value m))
@@ -53,11 +53,11 @@ pub record Summary : Type 0 where
   pub kind : ℕ
   pub number : ℕ
   pub clients : ℕ
-  pub client : Found
+  pub client : Option Spot
   pub servers : ℕ
-  pub server : Found
+  pub server : Option Spot
   pub pds : ℕ
-  pub pd : Found
+  pub pd : Option Spot
 
 unfoldable pub summary : List ℕ → Summary
 summary m = record {

@@ -2,13 +2,13 @@
 --   Listed, Ia, Message   an IA Prefix, an IA_PD, a message: all that is read in each
 --   read, well_formed      a message's bytes as a value; whether no option is malformed
 --   print                 the bytes of a message
-use Rattle.std.specs.Prelude.{ℕ, ◌+◌, ◌-◌, ◌*◌, Bool, true, false, cond, List, [], ◌∷◌, ◌++◌, map, eqb, length, get_or, Option, None, Some}
+use Rattle.std.specs.Prelude.{ℕ, ◌+◌, ◌-◌, ◌*◌, Bool, true, false, cond, List, [], ◌∷◌, ◌++◌, map, eqb, length, get_or, Option, None, Some, is_ok}
 use Rattle.rules.specs.Words.{any, be, be16, num_at, u16_at}
 use Rattle.rules.specs.Prefix.{Prefix, prefix, Lease, lease, exclude_bytes, unpacked}
-use Rattle.rules.specs.Options.{Area, area_of, check, is_good, options, nth, content, Item, item, printed}
+use Rattle.rules.specs.Options.{Area, area_of, check, options, nth, content, Item, item, printed}
 use Rattle.rules.specs.declared.Level.TheVariants.{Top}
-use Rattle.rules.specs.declared.Found.{Found}
-use Rattle.rules.specs.declared.Found.TheVariants.{At, Nothing}
+use Rattle.rules.specs.declared.Spot.{Spot}
+use Rattle.rules.specs.Options.{spot}
 
 -- ---------------------------------------------------------------- the values
 
@@ -39,14 +39,14 @@ pub record Message : Type 0 where
 
 -- ---------------------------------------------------------------- reading
 
-abbrev pub status_at : List ℕ → Found → ℕ
-status_at m (At p s n) = u16_at m s
-status_at m Nothing = 0
+abbrev pub status_at : List ℕ → Option Spot → ℕ
+status_at m (Some o) = u16_at m o.start
+status_at m None = 0
 
 -- the excluded prefix inside p
-abbrev pub except_at : List ℕ → Prefix → Found → Option Prefix
-except_at m p (At q s n) = Some (unpacked p (get_or m s 0) (num_at m (s + 1) (n - 1)))
-except_at m p Nothing = None
+abbrev pub except_at : List ℕ → Prefix → Option Spot → Option Prefix
+except_at m p (Some o) = Some (unpacked p (get_or m o.start 0) (num_at m (o.start + 1) (o.len - 1)))
+except_at m p None = None
 
 -- "preferred, valid (4 each), length (1), prefix (16), options", where the content starts at s and its options are a
 abbrev pub listed_in : List ℕ → ℕ → Area → Listed
@@ -59,9 +59,9 @@ listed_in m s a = record {
   statuses = map (status_at m) (options 13 a);
 }
 
-unfoldable pub listed_at : List ℕ → Found → Listed
-listed_at m (At p s n) = listed_in m s (area_of m (s + 25) (s + n))
-listed_at m Nothing = record { preferred = 0; valid = 0; lease = lease (prefix 0 0) None; statuses = [] }
+unfoldable pub listed_at : List ℕ → Option Spot → Listed
+listed_at m (Some o) = listed_in m o.start (area_of m (o.start + 25) (o.start + o.len))
+listed_at m None = record { preferred = 0; valid = 0; lease = lease (prefix 0 0) None; statuses = [] }
 
 -- "IAID, T1, T2 (4 bytes each), then options"
 abbrev pub ia_in : List ℕ → ℕ → Area → Ia
@@ -73,9 +73,9 @@ ia_in m s a = record {
   statuses = map (status_at m) (options 13 a);
 }
 
-unfoldable pub ia_at : List ℕ → Found → Ia
-ia_at m (At p s n) = ia_in m s (area_of m (s + 12) (s + n))
-ia_at m Nothing = record { iaid = 0; t1 = 0; t2 = 0; listed = []; statuses = [] }
+unfoldable pub ia_at : List ℕ → Option Spot → Ia
+ia_at m (Some o) = ia_in m o.start (area_of m (o.start + 12) (o.start + o.len))
+ia_at m None = record { iaid = 0; t1 = 0; t2 = 0; listed = []; statuses = [] }
 
 -- the codes of an Option Request, and whether 67 is one of them
 unfoldable pub codes : List ℕ → List ℕ
@@ -107,7 +107,7 @@ read m = read_in m (top m)
 
 -- no option of the message is malformed
 unfoldable pub well_formed : List ℕ → Bool
-well_formed m = is_good (check Top m 4 (length m))
+well_formed m = is_ok (check Top m 4 (length m))
 
 -- ---------------------------------------------------------------- writing
 

@@ -3,17 +3,14 @@
 --   scan, check            the first bad place of an area, for each level: the message, an IA_PD, an IA Prefix
 --   options, nth, content  the options of one code, in order; the k-th; the stretch of the message that is its content
 --   option, Item, printed  the bytes of an option; options by code and content; their bytes
-use Rattle.std.specs.Prelude.{ℕ, zero, suc, ◌+◌, ◌-◌, ◌%◌, Bool, true, false, cond, ◌&&◌, List, [], ◌∷◌, ◌++◌, eqb, leb, ltb, length, get_or}
+use Rattle.std.specs.Prelude.{ℕ, zero, suc, ◌+◌, ◌-◌, ◌%◌, Bool, true, false, cond, ◌&&◌, List, [], ◌∷◌, ◌++◌, eqb, leb, ltb, length, get_or, Option, None, Some, Result, Ok, Err}
 use Rattle.rules.specs.Words.{cons_if, part, be16, u16_at}
 use Rattle.rules.specs.Prefix.{content_ok}
 use Rattle.rules.specs.declared.Level.{Level}
 use Rattle.rules.specs.declared.Level.TheVariants.{Top, InPd, InPrefix}
 use Rattle.rules.specs.declared.Step.{Step}
 use Rattle.rules.specs.declared.Step.TheVariants.{Opt, End, Bad}
-use Rattle.rules.specs.declared.Checked.{Checked}
-use Rattle.rules.specs.declared.Checked.TheVariants.{Good, Broken}
-use Rattle.rules.specs.declared.Found.{Found}
-use Rattle.rules.specs.declared.Found.TheVariants.{At, Nothing}
+use Rattle.rules.specs.declared.Spot.{Spot}
 
 -- ---------------------------------------------------------------- the walk
 
@@ -47,24 +44,28 @@ area_of m at e = walk (suc (e - at)) m at e
 
 -- ---------------------------------------------------------------- what is malformed
 
+-- an area is well formed, or its first bad option or leftover byte stands at a place
+abbrev pub Checked : Type 0
+Checked = Result (Unit {0}) ℕ
+
 abbrev pub and_then : Checked → Checked → Checked
-and_then Good r = r
-and_then (Broken p) r = Broken p
+and_then (Ok u) r = r
+and_then (Err p) r = Err p
 
 -- the option at p is good, or broken there
 abbrev pub wants : Bool → ℕ → Checked
-wants true p = Good
-wants false p = Broken p
+wants true p = Ok tt
+wants false p = Err p
 
 -- The first bad place of an area. `own` judges one option, by how many PD Excludes stand before it, its place, code, start and length.
 unfoldable pub scan : (ℕ → ℕ → ℕ → ℕ → ℕ → Checked) → ℕ → Area → Checked
-scan own k over = Good
-scan own k (stop p) = Broken p
+scan own k over = Ok tt
+scan own k (stop p) = Err p
 scan own k (opt p c s n r) = and_then (own k p c s n) (scan own (cond (eqb c 67) (k + 1) k) r)
 
 -- "Status Code: at least 2", and every other code is stepped over
 abbrev pub in_any : ℕ → ℕ → ℕ → Checked
-in_any p c n = cond (eqb c 13) (wants (leb 2 n) p) Good
+in_any p c n = cond (eqb c 13) (wants (leb 2 n) p) (Ok tt)
 
 -- PD Exclude "read only inside an IA Prefix of length a": b, then its packed bits; "At most one per IA Prefix."
 abbrev pub exclude_ok : List ℕ → ℕ → ℕ → ℕ → Bool
@@ -102,27 +103,27 @@ own (InPrefix a) m k p c s n = in_prefix m a k p c s n
 unfoldable pub check : Level → List ℕ → ℕ → ℕ → Checked
 check l m at e = scan (own l m) 0 (area_of m at e)
 
-abbrev pub is_good : Checked → Bool
-is_good Good = true
-is_good (Broken p) = false
-
 -- ---------------------------------------------------------------- the options of an area
 
-unfoldable pub options : ℕ → Area → List Found
+-- an option at p, with n bytes of content from s on
+abbrev pub spot : ℕ → ℕ → ℕ → Spot
+spot p s n = record { place = p; start = s; len = n }
+
+unfoldable pub options : ℕ → Area → List (Option Spot)
 options w over = []
 options w (stop p) = []
-options w (opt p c s n r) = cons_if (eqb c w) (At p s n) (options w r)
+options w (opt p c s n r) = cons_if (eqb c w) (Some (spot p s n)) (options w r)
 
 abbrev pub count : ℕ → Area → ℕ
 count w a = length (options w a)
 
-abbrev pub nth : ℕ → ℕ → Area → Found
-nth w k a = get_or (options w a) k Nothing
+abbrev pub nth : ℕ → ℕ → Area → Option Spot
+nth w k a = get_or (options w a) k None
 
 -- "handed back as that stretch of the message"
-abbrev pub content : List ℕ → Found → List ℕ
-content m (At p s n) = part s n m
-content m Nothing = []
+abbrev pub content : List ℕ → Option Spot → List ℕ
+content m (Some o) = part o.start o.len m
+content m None = []
 
 -- ---------------------------------------------------------------- the bytes of an option
 

@@ -1,10 +1,33 @@
 -- Refusals: what an operation gives, the tests that several operations share, and the order of the numbers at each.
-use Rattle.std.specs.Prelude.{ℕ, ◌^◌, Bool, cond, not, ◌||◌, List, [], ◌∷◌, leb, ltb, length}
+use Rattle.std.specs.Prelude.{ℕ, ◌^◌, Bool, cond, not, ◌||◌, List, [], ◌∷◌, leb, ltb, length, Result, Ok, Err}
+use Rattle.rules.specs.declared.Refusal.{Refusal}
+use Rattle.rules.specs.declared.Refusal.TheVariants.{Time, Room, Size, Unserved, Malformed, Identity, Delegation, Silence, Unsound, Settings, Busy, Early, State, Unawaited}
 
 -- "Each returns its number and length 0 and writes nothing": a refusal is a number and nothing else.
 pub data Res (A : Type 0) : Type 0 where
   refuse : ℕ → Res A
   done : A → Res A
+
+-- the number of each refusal that code names, and what an operation in code gives
+abbrev pub number_of : Refusal → ℕ
+number_of Time = 1
+number_of Room = 2
+number_of Size = 3
+number_of Unserved = 4
+number_of Malformed = 5
+number_of Identity = 6
+number_of Delegation = 7
+number_of Silence = 8
+number_of Unsound = 9
+number_of Settings = 10
+number_of Busy = 11
+number_of Early = 12
+number_of State = 13
+number_of Unawaited = 14
+
+abbrev pub given : {A : Type 0} → Result A Refusal → Res A
+given (Ok x) = done x
+given (Err r) = refuse (number_of r)
 
 -- A table of numbers, each with the condition that it is "given exactly when" met; the first that applies is given.
 abbrev pub unless : {A : Type 0} → List (ℕ × Bool) → Res A → Res A

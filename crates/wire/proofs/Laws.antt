@@ -1,4 +1,5 @@
 -- Laws that only these proofs need.
+use Rattle.std.specs.Prelude.{Err, Ok, Option, Some}
 use mathlib.Core.Path.{◌≡◌, refl, sym, ap, ◌∙◌, subst}
 use mathlib.Core.List.{List, []}
 use mathlib.Core.Bool.{true, false}
@@ -14,10 +15,9 @@ use Rattle.rules.specs.Options.{in_any, exclude_ok, own, area_of, count, nth, co
 use Rattle.rules.specs.Message.{except_at, listed_at, top}
 use Rattle.rules.specs.declared.Level.{Level}
 use Rattle.rules.specs.declared.Level.TheVariants.{Top, InPd, InPrefix}
-use Rattle.rules.specs.declared.Checked.{Checked}
-use Rattle.rules.specs.declared.Checked.TheVariants.{Good}
-use Rattle.rules.specs.declared.Found.{Found}
-use Rattle.rules.specs.declared.Found.TheVariants.{At}
+use Rattle.rules.specs.Options.{Checked}
+use Rattle.rules.specs.declared.Spot.{Spot}
+use Rattle.rules.specs.Options.{spot}
 use Rattle.laws.specs.Tests.{both, false-true}
 use Rattle.laws.specs.Parts.{part-cons}
 use Rattle.laws.specs.Numbers.{Bytes, bytes-part, num-lt, num_at-is}
@@ -33,7 +33,7 @@ module _ (m : List ℕ) where
   unfolding client_stretch top
   client-other q h = rw (← q, ne_eqb _ _ h)
 
-  pub client-one : {k : ℕ} {f : Found} → k ≡ count 1 (area_of m 4 (length m)) → k ≡ 1 → f ≡ nth 1 0 (area_of m 4 (length m)) → content m f ≡ client_stretch m
+  pub client-one : {k : ℕ} {f : Option Spot} → k ≡ count 1 (area_of m 4 (length m)) → k ≡ 1 → f ≡ nth 1 0 (area_of m 4 (length m)) → content m f ≡ client_stretch m
   unfolding client_stretch top
   client-one q h g = rw (← q, eq-eqb _ _ h, ← g)
 
@@ -61,11 +61,11 @@ module _ (c : ℕ) (h : is_judged c ≡ false) where
   unfolding is_judged
   not-exclude = unjudged c 67 refl h
 
-  any-good : (p n : ℕ) → in_any p c n ≡ Good
+  any-good : (p n : ℕ) → in_any p c n ≡ Ok tt
   unfolding is_judged
   any-good p n = rw (ne_eqb c 13 (unjudged c 13 refl h))
 
-  pub other-good : (l : Level) (m : List ℕ) (k p s n : ℕ) → own l m k p c s n ≡ Good
+  pub other-good : (l : Level) (m : List ℕ) (k p s n : ℕ) → own l m k p c s n ≡ Ok tt
   unfolding own is_judged
   other-good Top m k p s n = rw (ne_eqb c 25 (unjudged c 25 refl h), ne_eqb c 6 (unjudged c 6 refl h)) (any-good p n)
   other-good InPd m k p s n = rw (ne_eqb c 26 (unjudged c 26 refl h)) (any-good p n)
@@ -87,7 +87,7 @@ exclude-some m a s n h = ltb-true 0 n (both (ltb 0 n) (content_ok a (get_or m s 
 
 -- what is unpacked is the excluded prefix that is read
 pub cut-read : (m p : List ℕ) (a s n : ℕ) → Bytes m → Bytes p → length p ≡ 16 → s + n ≤ length m → exclude_ok m a s n ≡ true → {b : ℕ} → b ≡ get_or m s 0
-    → (o : List ℕ) → o ≡ be 16 (unpacked (prefix (num p) a) b (num (take (s + n - (s + 1)) (drop (s + 1) m)))).bits → except_of b o ≡ except_at m (prefix (num p) a) (At 0 s n)
+    → (o : List ℕ) → o ≡ be 16 (unpacked (prefix (num p) a) b (num (take (s + n - (s + 1)) (drop (s + 1) m)))).bits → except_of b o ≡ except_at m (prefix (num p) a) (Some (spot 0 s n))
 unfolding except_of unpacked
 cut-read m p a s n bm bp lp w h {b} q o r =
     let c = part (s + 1) (n - 1) m in
@@ -102,6 +102,6 @@ cut-read m p a s n bm bp lp w h {b} q o r =
 -- an IA Prefix is what its fields are
 pub listed-read : (m : List ℕ) (s n : ℕ) (x : IaPrefix) → Bytes m → s + 25 ≤ length m → x.preferred ≡ num_at m s 4 → x.valid ≡ num_at m (s + 4) 4 → x.length ≡ get_or m (s + 8) 0
     → x.bits ≡ part (s + 9) 16 m → except_of x.cut x.out ≡ except_at m (prefix (num x.bits) x.length) (nth 67 0 (area_of m (s + 25) (s + n)))
-    → listed_of x (listed_at m (At 0 s n)).statuses ≡ listed_at m (At 0 s n)
+    → listed_of x (listed_at m (Some (spot 0 s n))).statuses ≡ listed_at m (Some (spot 0 s n))
 unfolding listed_of lease_of listed_at
 listed-read m s n x bm w p v l b o = simp (o, p, v, l, ap num b ∙ sym (num_at-is m (s + 9) 16 bm (omega arith)))

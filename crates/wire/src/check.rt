@@ -12,9 +12,9 @@ fn good_if(ok: bool, place: usize) -> Checked
     ensures { result ≡ wants ok place }
 {
     if ok {
-        return Checked::Good;
+        return Ok(());
     }
-    Checked::Broken(place)
+    Err(place)
 }
 
 // An option at any level: a Status Code has 2 bytes or more.
@@ -24,7 +24,7 @@ fn in_any(place: usize, code: usize, len: usize) -> Checked
     if code == 13 {
         return good_if(2 <= len, place);
     }
-    Checked::Good
+    Ok(())
 }
 
 // Whether the content of a PD Exclude, inside a prefix of length a, is an excluded prefix's.
@@ -67,11 +67,11 @@ fn in_pd(msg: &[u8], place: usize, code: usize, start: usize, len: usize) -> Che
 {
     if code == 26 {
         if len < 25 {
-            return Checked::Broken(place);
+            return Err(place);
         }
         let a = u8_at(msg, start + 8);
         if 128 < a {
-            return Checked::Broken(place);
+            return Err(place);
         }
         return check_area(msg, Level::InPrefix(a), start + 25, start + len);
     }
@@ -86,7 +86,7 @@ fn in_top(msg: &[u8], place: usize, code: usize, start: usize, len: usize) -> Ch
 {
     if code == 25 {
         if len < 12 {
-            return Checked::Broken(place);
+            return Err(place);
         }
         return check_area(msg, Level::InPd, start + 12, start + len);
     }
@@ -141,9 +141,7 @@ pub fn check_area(msg: &[u8], l: Level, at: usize, end: usize) -> Checked
                 next,
             } => {
                 if is_judged(code) {
-                    if let Checked::Broken(q) = check_one(msg, l, seen, p, code, start, len) {
-                        return Checked::Broken(q);
-                    }
+                    check_one(msg, l, seen, p, code, start, len)?;
                     if code == 67 {
                         seen += 1;
                     }
@@ -151,10 +149,10 @@ pub fn check_area(msg: &[u8], l: Level, at: usize, end: usize) -> Checked
                 p = next;
             }
             Step::End => {
-                return Checked::Good;
+                return Ok(());
             }
             Step::Bad(q) => {
-                return Checked::Broken(q);
+                return Err(q);
             }
         }
     }
@@ -164,8 +162,5 @@ pub fn check_area(msg: &[u8], l: Level, at: usize, end: usize) -> Checked
 pub fn well_formed(msg: &[u8]) -> bool
     ensures { result ≡ well_formed msg.now }
 {
-    match check_area(msg, Level::Top, 4, msg.len()) {
-        Checked::Good => true,
-        Checked::Broken(_) => false,
-    }
+    check_area(msg, Level::Top, 4, msg.len()).is_ok()
 }

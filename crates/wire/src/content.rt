@@ -4,14 +4,13 @@ ghost use Rattle.rules.specs.Words.{num, num_at};
 ghost use Rattle.rules.specs.Prefix.{prefix};
 ghost use Rattle.rules.specs.Options.{area_of, exclude_ok, check_prefix, nth};
 ghost use Rattle.rules.specs.Message.{except_at, listed_at};
-ghost use Rattle.rules.specs.declared.Found.TheVariants.{At};
-ghost use Rattle.rules.specs.declared.Checked.TheVariants.{Good};
+ghost use Rattle.rules.specs.Options.{spot};
 ghost use Rattle.laws.specs.Formed.{PrefixFormed};
 ghost use Rattle.values.specs.Values.{except_of, listed_of};
 
 use crate::find::find;
 use crate::walk::u8_at;
-use rules::Found;
+use rules::Spot;
 use values::IaPrefix;
 
 // An excluded prefix and its length, or 0 for none.
@@ -32,7 +31,7 @@ pub fn u32_at(msg: &[u8], at: usize) -> u32
 // The excluded prefix that a PD Exclude's content gives inside p of length a.
 pub fn cut_at(msg: &[u8], p: [u8; 16], a: usize, start: usize, len: usize) -> Cut
     requires { (start + len ≤ length msg.now) × (exclude_ok msg.now a start len ≡ true) }
-    ensures { except_of result.cut result.out ≡ except_at msg.now (prefix (num p) a) (At 0 start len) }
+    ensures { except_of result.cut result.out ≡ except_at msg.now (prefix (num p) a) (Some (spot 0 start len)) }
 {
     let b = u8_at(msg, start);
     let out = prefix::exclude::unpack(p, a, &msg[start + 1..start + len], b);
@@ -41,16 +40,12 @@ pub fn cut_at(msg: &[u8], p: [u8; 16], a: usize, start: usize, len: usize) -> Cu
 
 // The excluded prefix of an IA Prefix whose options lie between two places.
 pub fn cut_in(msg: &[u8], p: [u8; 16], a: usize, at: usize, end: usize) -> Cut
-    requires { (end ≤ length msg.now) × (check_prefix msg.now a at end ≡ Good) }
+    requires { (end ≤ length msg.now) × (check_prefix msg.now a at end ≡ Ok tt) }
     ensures { except_of result.cut result.out ≡ except_at msg.now (prefix (num p) a) (nth 67 0 (area_of msg.now at end)) }
 {
     match find(msg, at, end, 67, 0) {
-        Found::At {
-            place: _,
-            start,
-            len,
-        } => cut_at(msg, p, a, start, len),
-        Found::Nothing => Cut {
+        Some(o) => cut_at(msg, p, a, o.start, o.len),
+        None => Cut {
             cut: 0,
             out: [0u8; 16],
         },
@@ -60,7 +55,7 @@ pub fn cut_in(msg: &[u8], p: [u8; 16], a: usize, at: usize, end: usize) -> Cut
 // The IA Prefix with that content.
 pub fn prefix_at(msg: &[u8], start: usize, len: usize) -> IaPrefix
     requires { PrefixFormed msg.now start len }
-    ensures { listed_of result (listed_at msg.now (At 0 start len)).statuses ≡ listed_at msg.now (At 0 start len) }
+    ensures { listed_of result (listed_at msg.now (Some (spot 0 start len))).statuses ≡ listed_at msg.now (Some (spot 0 start len)) }
 {
     let preferred = u32_at(msg, start);
     let valid = u32_at(msg, start + 4);

@@ -4,7 +4,7 @@ ghost use Rattle.rules.specs.Options.{area_of, count, nth};
 ghost use Rattle.wire.specs.Client.{client_stretch};
 
 use crate::walk::step_at;
-use rules::{Found, Step};
+use rules::{Spot, Step};
 
 // How many options of the code w an area has.
 pub fn count_of(msg: &[u8], at: usize, end: usize, w: usize) -> usize
@@ -37,7 +37,7 @@ pub fn count_of(msg: &[u8], at: usize, end: usize, w: usize) -> usize
 }
 
 // The k-th option of the code w in an area.
-pub fn find(msg: &[u8], at: usize, end: usize, w: usize, k: usize) -> Found
+pub fn find(msg: &[u8], at: usize, end: usize, w: usize, k: usize) -> Option<Spot>
     requires { end ≤ length msg.now }
     ensures { result ≡ nth w k (area_of msg.now at end) }
 {
@@ -53,21 +53,21 @@ pub fn find(msg: &[u8], at: usize, end: usize, w: usize, k: usize) -> Found
             } => {
                 if code == w {
                     if left == 0 {
-                        return Found::At {
+                        return Some(Spot {
                             place: p,
                             start,
                             len,
-                        };
+                        });
                     }
                     left -= 1;
                 }
                 p = next;
             }
             Step::End => {
-                return Found::Nothing;
+                return None;
             }
             Step::Bad(_) => {
-                return Found::Nothing;
+                return None;
             }
         }
     }
@@ -81,11 +81,7 @@ pub fn client_id(msg: &[u8]) -> &[u8]
         return &msg[..0];
     }
     match find(msg, 4, msg.len(), 1, 0) {
-        Found::At {
-            place: _,
-            start,
-            len,
-        } => &msg[start..start + len],
-        Found::Nothing => &msg[..0],
+        Some(o) => &msg[o.start..o.start + o.len],
+        None => &msg[..0],
     }
 }

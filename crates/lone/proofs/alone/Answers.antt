@@ -8,8 +8,8 @@ returns-then-u16_at-w c = simp (← c.u16_at.ensures.0, ne_eqb _ _ c.if-u16_at-w
 pub returns-then-len-text : goal.returns-then-len-text
 returns-then-len-text c = simp (← c.u16_at.ensures.0, eq-eqb _ _ c.if-u16_at-w.false, ← c.u16_at-len.ensures.0, ne_eqb _ _ c.if-len-text.true)
 
-pub returns-in-Good : goal.returns-in-Good
-returns-in-Good c = simp (← c.u16_at.ensures.0, eq-eqb _ _ c.if-u16_at-w.false, ← c.u16_at-len.ensures.0, eq-eqb _ _ c.if-len-text.false, ← c.check_one.ensures, c.in-Good.is)
+pub returns-in-Ok : goal.returns-in-Ok
+returns-in-Ok c = simp (← c.u16_at.ensures.0, eq-eqb _ _ c.if-u16_at-w.false, ← c.u16_at-len.ensures.0, eq-eqb _ _ c.if-len-text.false, ← c.check_one.ensures, c.in-Ok.is)
 
-pub returns-in-Broken : goal.returns-in-Broken
-returns-in-Broken c = simp (← c.u16_at.ensures.0, eq-eqb _ _ c.if-u16_at-w.false, ← c.u16_at-len.ensures.0, eq-eqb _ _ c.if-len-text.false, ← c.check_one.ensures, c.in-Broken.is)
+pub returns-in-Err : goal.returns-in-Err
+returns-in-Err c = simp (← c.u16_at.ensures.0, eq-eqb _ _ c.if-u16_at-w.false, ← c.u16_at-len.ensures.0, eq-eqb _ _ c.if-len-text.false, ← c.check_one.ensures, c.in-Err.is)

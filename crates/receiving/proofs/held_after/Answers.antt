@@ -1,6 +1,7 @@
 -- By the type, and where the one IA_PD was found.
+use Rattle.std.specs.Prelude.{Some}
 use Rattle.std.proofs.Common.{◌∙◌, ◌≡◌, sym, arith}
-use Rattle.rules.specs.declared.Found.TheVariants.{At}
+use Rattle.rules.specs.Options.{spot}
 use Rattle.laws.specs.RouterRepresent.{lent_length}
 use Rattle.heard.specs.Heard.{only_of}
 use Rattle.awaited.specs.Facts.{only-formed}
@@ -16,13 +17,13 @@ get-began-requires c = omega (arith, lent_length _ c.requires.sound)
 pub taken-requires : goal.taken-requires
 taken-requires c =
     -- where it was found
-    let was : only_of 25 c.args.msg.now ≡ At c.in-At.place c.in-At.start c.in-At.len = cc in
+    let was : only_of 25 c.args.msg.now ≡ Some (spot c.in-Some.o.place c.in-Some.o.start c.in-Some.o.len) = cc in
     (only-formed _ (facts c.requires).formed was, began-small c.requires c.get-began.ensures.0)
 
-pub returns-in-At : goal.returns-in-At
-returns-in-At c =
-    let was : only_of 25 c.args.msg.now ≡ At c.in-At.place c.in-At.start c.in-At.len = cc in
+pub returns-in-Some : goal.returns-in-Some
+returns-in-Some c =
+    let was : only_of 25 c.args.msg.now ≡ Some (spot c.in-Some.o.place c.in-Some.o.start c.in-Some.o.len) = cc in
     held-taken c.requires _ c.if-kind.false c.get-began.ensures.0 was c.taken.ensures
 
-pub returns-in-Nothing : goal.returns-in-Nothing
-returns-in-Nothing c = absurd (held_one c.requires c.args.time c.if-kind.false (sym c.only.ensures ∙ c.in-Nothing.is))
+pub returns-in-None : goal.returns-in-None
+returns-in-None c = absurd (held_one c.requires c.args.time c.if-kind.false (sym c.only.ensures ∙ c.in-None.is))

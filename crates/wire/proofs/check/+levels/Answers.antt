@@ -1,25 +1,27 @@
-use Rattle.std.proofs.Common.{◌∙◌, sym, arith, eq-eqb, le-leb}
+use Rattle.std.specs.Prelude.{◌≡◌, Err}
+use Rattle.std.proofs.Common.{rules, ◌∙◌, sym, arith, eq-eqb, le-leb}
 use Rattle.rules.specs.Options.{check, check_pd, check_prefix, own}
 use Rattle.laws.specs.Steps.{Stepped, scan-broken, scan-past, scan-seen, stepped}
 use Rattle.laws.specs.Walk.{scan-bad, scan-end}
 use Rattle.wire.proofs.Laws.{not-exclude, other-good, own_is}
 use Rattle.wire.proofs.check.+levels.Goals as goal
 
-pub check_area-returns-in-Broken : goal.check_area-returns-in-Broken
+pub check_area-returns-in_err-check_one-in-Opt : goal.check_area-returns-in_err-check_one-in-Opt
 unfolding check
-check_area-returns-in-Broken t c =
+check_area-returns-in_err-check_one-in-Opt t c =
     let found : Stepped c.args.msg.now c.loop-code.p c.args.end c.in-Opt.code c.in-Opt.start c.in-Opt.len c.in-Opt.next = stepped _ _ _ (cc) in
-    sym (c.loop-code.invariant.1 ∙ scan-broken _ _ found (sym c.check_one.ensures ∙ c.in-Broken.is))
+    let e : c.from_residual.result ≡ Err c.in_err-check_one-in-Opt.field-0.0 = search rules in
+    sym (c.loop-code.invariant.1 ∙ scan-broken _ _ found (sym c.check_one.ensures ∙ c.in_err-check_one-in-Opt.was) ∙ sym e)
 
 pub check_area-loop-code-preserved-then-code-eq67 : goal.check_area-loop-code-preserved-then-code-eq67
 check_area-loop-code-preserved-then-code-eq67 t c =
     let found : Stepped c.args.msg.now c.loop-code.p c.args.end c.in-Opt.code c.in-Opt.start c.in-Opt.len c.in-Opt.next = stepped _ _ _ (cc) in
-    (omega (arith, found), c.loop-code.invariant.1 ∙ scan-seen _ _ found (sym c.check_one.ensures ∙ c.in_default.is) c.if-code-eq67.true)
+    (omega (arith, found), c.loop-code.invariant.1 ∙ scan-seen _ _ found (sym c.check_one.ensures ∙ c.in_ok-check_one-in-Opt.was) c.if-code-eq67.true)
 
 pub check_area-loop-code-preserved-else-code-eq67 : goal.check_area-loop-code-preserved-else-code-eq67
 check_area-loop-code-preserved-else-code-eq67 t c =
     let found : Stepped c.args.msg.now c.loop-code.p c.args.end c.in-Opt.code c.in-Opt.start c.in-Opt.len c.in-Opt.next = stepped _ _ _ (cc) in
-    (omega (arith, found), c.loop-code.invariant.1 ∙ scan-past _ _ found (sym c.check_one.ensures ∙ c.in_default.is) c.if-code-eq67.false)
+    (omega (arith, found), c.loop-code.invariant.1 ∙ scan-past _ _ found (sym c.check_one.ensures ∙ c.in_ok-check_one-in-Opt.was) c.if-code-eq67.false)
 
 -- a code that isn't judged
 pub check_area-loop-code-preserved : goal.check_area-loop-code-preserved

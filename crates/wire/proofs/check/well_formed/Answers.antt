@@ -1,13 +1,9 @@
 -- By what the walk over the message gives.
-use Rattle.std.proofs.Common.{◌∙◌, ap, sym}
+use Rattle.std.specs.Prelude.{is_ok}
+use Rattle.std.proofs.Common.{◌∙◌, ap}
 use Rattle.rules.specs.Message.{well_formed}
-use Rattle.rules.specs.Options.{is_good}
 use Rattle.wire.proofs.check.well_formed.Goals as goal
 
-pub returns-in-Good : goal.returns-in-Good
+pub returns : goal.returns
 unfolding well_formed
-returns-in-Good c = sym (ap is_good (sym c.check_area.ensures ∙ c.in-Good.is))
-
-pub returns-in-Broken : goal.returns-in-Broken
-unfolding well_formed
-returns-in-Broken c = sym (ap is_good (sym c.check_area.ensures ∙ c.in-Broken.is))
+returns c = c.is_ok.ensures.value ∙ ap is_ok c.check_area.ensures

@@ -1,12 +1,13 @@
+use Rattle.std.specs.Prelude.{Option}
 use Rattle.std.proofs.Common.{Bool, List, map, ◌≡◌, ℕ, ◌-◌, eqb}
 use Rattle.rules.specs.Words.{any}
 use Rattle.rules.specs.Options.{area_of, options}
 use Rattle.rules.specs.Message.{status_at}
-use Rattle.rules.specs.declared.Found.{Found}
+use Rattle.rules.specs.declared.Spot.{Spot}
 use Rattle.wire.proofs.says.has_status.Given as goal
 
 -- The invariant: some Status Code says it where one of those from here on does.
-abbrev says : List ℕ → ℕ → Found → Bool
+abbrev says : List ℕ → ℕ → Option Spot → Bool
 says m k f = eqb k (status_at m f)
 
 abbrev pub invariant-loop-code : goal.invariant-loop-code
