@@ -1,14 +1,15 @@
 -- A table of refusals: nothing is refused exactly where every test fails; and what a result tells.
---   number                    the number of the first test that applies, or 0: what code answers
+--   number, refused_by        the number of the first test that applies, or 0; the number with which code refuses, or 0
 --   none-applies              what the number 0 says of the tests
 --   number-here, -later       a table judged part by part
 --   number-refused            what another number says of the result
 --   in-time                   what the passed test of the time says
 --   nine-once                 the test of the lent bytes, and of what they represent
-use Rattle.std.specs.Prelude.{◌≡◌, refl, Bool, true, false, cond, not, List, [], ◌∷◌, ◌++◌, ℕ, ◌≤◌, ◌<◌, ◌^◌, leb, ltb}
+use Rattle.std.specs.Prelude.{◌≡◌, refl, Bool, true, false, cond, not, List, [], ◌∷◌, ◌++◌, ℕ, ◌≤◌, ◌<◌, ◌^◌, leb, ltb, Result, Ok, Err}
 use Rattle.std.proofs.Common.{sym, ap, subst, arith, ltb-true, ltb-false, leb-false}
 use Rattle.rules.specs.Words.{all}
-use Rattle.rules.specs.Refusals.{Res, refuse, done, unless, bad_time}
+use Rattle.rules.specs.Refusals.{Res, refuse, done, number_of, unless, bad_time}
+use Rattle.rules.specs.declared.Refusal.{Refusal}
 use Rattle.laws.specs.Tests.{both, neither}
 use Rattle.laws.specs.Every.{Every}
 
@@ -40,6 +41,11 @@ two P e h = one (λ z. P z.0 z.1) e h
 abbrev pub number : List (ℕ × Bool) → ℕ
 number [] = 0
 number (r ∷ rs) = cond r.1 r.0 (number rs)
+
+-- the number with which code refuses, or 0
+abbrev pub refused_by : {A : Type 0} → Result A Refusal → ℕ
+refused_by (Ok x) = 0
+refused_by (Err r) = number_of r
 
 -- of a table whose numbers are above 0: where the first that applies is 0, none applies
 pub none-applies : (ts : List (ℕ × Bool)) → all (λ r. ltb 0 r.0) ts ≡ true → {n : ℕ} → n ≡ number ts → n ≡ 0 → Every (λ r. r.1 ≡ false) ts

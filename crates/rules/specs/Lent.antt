@@ -1,8 +1,8 @@
 -- The operations on lent arrays: for each, the word that it returns and every lent byte afterwards.
 --   The word is the refusal's number times 65,536, plus the length of what was written: one of the two is 0.
-use Rattle.std.specs.Prelude.{ℕ, ◌*◌, Bool, cond, not, List, [], ◌∷◌, ◌++◌, ltb, length, Option, None, Some, slice_get}
+use Rattle.std.specs.Prelude.{Result, Ok, Err, ℕ, ◌*◌, Bool, cond, not, List, [], ◌∷◌, ◌++◌, ltb, length, Option, None, Some, slice_get}
 use Rattle.rules.specs.Words.{splice}
-use Rattle.rules.specs.Refusals.{Res, refuse, done, unless, lent_tests}
+use Rattle.rules.specs.Refusals.{Res, refuse, done, number_of, unless, lent_tests}
 use Rattle.rules.specs.Clock.{Moment}
 use Rattle.rules.specs.Identity.{Identity}
 use Rattle.rules.specs.Settings.{Settings}
@@ -12,6 +12,7 @@ use Rattle.rules.specs.Box.{box_start, box_handle, box_live}
 use Rattle.rules.specs.Router.{Router, Hold, sound_router, router_start, router_send, router_resend, router_abandon, router_receive}
 use Rattle.rules.specs.RouterBytes.{hold_size, hold_bytes, router_bytes, router_of, sound_router_bytes}
 use Rattle.rules.specs.declared.Kind.{Kind}
+use Rattle.rules.specs.declared.Refusal.{Refusal}
 
 -- what stands afterwards: the word, the lent table or state, and the lent room
 pub record Ended : Type 0 where
@@ -21,6 +22,11 @@ pub record Ended : Type 0 where
 
 abbrev pub ended : ℕ → List ℕ → List ℕ → Ended
 ended w b out = record { word = w; lent = b; room = out }
+
+-- the word for what code gives: how much it wrote, or why it refused
+abbrev pub word_of : Result ℕ Refusal → ℕ
+word_of (Ok n) = n
+word_of (Err r) = number_of r * 65536
 
 -- "Each returns its number and length 0 and writes nothing." Otherwise the new state is written, and the text at the front
 -- of the room: "Bytes past the answer stay."

@@ -8,7 +8,7 @@ pub data Res (A : Type 0) : Type 0 where
   refuse : ℕ → Res A
   done : A → Res A
 
--- the number of each refusal that code names, and what an operation in code gives
+-- the number of each refusal, by its name in code
 abbrev pub number_of : Refusal → ℕ
 number_of Time = 1
 number_of Room = 2
@@ -25,9 +25,10 @@ number_of Early = 12
 number_of State = 13
 number_of Unawaited = 14
 
-abbrev pub given : {A : Type 0} → Result A Refusal → Res A
-given (Ok x) = done x
-given (Err r) = refuse (number_of r)
+-- what code gives, as a result of these rules
+abbrev pub outcome : {A : Type 0} → Result A Refusal → Res A
+outcome (Ok x) = done x
+outcome (Err r) = refuse (number_of r)
 
 -- A table of numbers, each with the condition that it is "given exactly when" met; the first that applies is given.
 abbrev pub unless : {A : Type 0} → List (ℕ × Bool) → Res A → Res A

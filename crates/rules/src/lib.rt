@@ -1,4 +1,5 @@
-// The rules: definitions alone, in specs/. What stands here are the types that the definitions share with the code.
+// The rules: definitions alone, in specs/. What stands here are the types that the definitions share with the code, and the numbers
+// of the refusals.
 #![tactic(auto)]
 
 ghost use Rattle.rules.specs.Refusals.{number_of};
