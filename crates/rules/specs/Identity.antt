@@ -1,7 +1,9 @@
 -- Identities, and the identity rows.
-use Rattle.std.specs.Prelude.{ℕ, ◌^◌, Bool, true, false, cond, ◌&&◌, ◌||◌, List, [], ◌∷◌, eqb, leb, ltb, length, get_or}
+use Rattle.std.specs.Prelude.{ℕ, ◌^◌, Bool, true, false, cond, ◌&&◌, ◌||◌, List, [], ◌∷◌, eqb, leb, ltb, length, get_or, Result, Ok, Err}
 use Rattle.rules.specs.Words.{all, same_bytes}
 use Rattle.rules.specs.Message.{Message}
+use Rattle.rules.specs.declared.Refusal.{Refusal}
+use Rattle.rules.specs.declared.Refusal.TheVariants.{Unserved}
 use Rattle.rules.specs.declared.Kind.{Kind}
 use Rattle.rules.specs.declared.Kind.TheVariants.{Solicit, Request, Renew, Rebind, Release}
 
@@ -35,6 +37,10 @@ served k = eqb k 1 || eqb k 3 || eqb k 5 || eqb k 6 || eqb k 8
 
 abbrev pub kind_of : ℕ → Kind
 kind_of k = cond (eqb k 1) Solicit (cond (eqb k 3) Request (cond (eqb k 5) Renew (cond (eqb k 6) Rebind Release)))
+
+-- a type as a kind; 4 "its type isn't one the box serves"
+abbrev pub kind_from : ℕ → Result Kind Refusal
+kind_from k = cond (served k) (Ok (kind_of k)) (Err Unserved)
 
 abbrev pub type_of : Kind → ℕ
 type_of Solicit = 1

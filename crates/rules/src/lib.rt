@@ -2,6 +2,7 @@
 // of the refusals.
 #![tactic(auto)]
 
+ghost use Rattle.rules.specs.Identity.{kind_from, type_of};
 ghost use Rattle.rules.specs.Refusals.{number_of};
 ghost use Rattle.std.specs.Prelude.{◌≡◌};
 
@@ -80,11 +81,42 @@ pub struct Spot {
 }
 
 // The kinds of message that the box serves.
-#[derive(Clone, Copy)]
+#[derive(Clone, Copy, Debug, PartialEq, Eq)]
 pub enum Kind {
     Solicit,
     Request,
     Renew,
     Rebind,
     Release,
+}
+
+impl From<Kind> for u8 {
+    ghost from_gives = { λ k n. n ≡ type_of k };
+
+    fn from(k: Kind) -> u8 {
+        match k {
+            Kind::Solicit => 1,
+            Kind::Request => 3,
+            Kind::Renew => 5,
+            Kind::Rebind => 6,
+            Kind::Release => 8,
+        }
+    }
+}
+
+impl TryFrom<u8> for Kind {
+    type Error = Refusal;
+
+    ghost try_from_gives = { λ n r. r ≡ kind_from n };
+
+    fn try_from(n: u8) -> Result<Kind, Refusal> {
+        match n {
+            1 => Ok(Kind::Solicit),
+            3 => Ok(Kind::Request),
+            5 => Ok(Kind::Renew),
+            6 => Ok(Kind::Rebind),
+            8 => Ok(Kind::Release),
+            _ => Err(Refusal::Unserved),
+        }
+    }
 }
