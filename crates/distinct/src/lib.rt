@@ -22,6 +22,7 @@ fn spot(keys: &[u64], marks: &[u8; 2048], s: usize, k: u64) -> Option<usize>
 }
 
 // Whether no two of the first n numbers are the same, as far as a look tells.
+// Its clauses stay, n beside keys too, for docs/DECISIONS.md names it.
 pub fn plain(keys: &[u64], n: usize) -> bool
     requires { (n ≤ 256) × (256 ≤ length keys.now) }
     ensures { result ≡ true → Distinct keys.now n }
