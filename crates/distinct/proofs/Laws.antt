@@ -1,4 +1,4 @@
--- Marks for numbers: what each turn of `spot` and of `plain` keeps.
+-- Marks for numbers: what each turn of `plain` keeps.
 use mathlib.Core.Path.{◌≡◌, refl, sym, ap, ◌∙◌}
 use mathlib.Core.Bool.{Bool, true, false, cond}
 use mathlib.Core.Logic.{◌⊎◌, inl, inr}
@@ -11,23 +11,7 @@ use lib.ListN.{length, replicate, set, length-replicate, length-set}
 use lib.Seq.{get_or-set_same, get_or-set_other}
 use borrow.Author.Tests.{eqb-true, eqb-false}
 use Rattle.laws.specs.Tests.{lt-or-ge}
-use Rattle.distinct.specs.Distinct.{at, home, Distinct, Passed, Free}
-
--- ---------------------------------------------------------------- looking for a place
-
-module _ (keys marks : List ℕ) (s k : ℕ) where
-  pub none_passed : Passed keys marks s k s
-  none_passed = record { passed = λ e h g. absurd (omega arith) }
-
-  pub one-passed : (p : ℕ) {mark : ℕ} → mark ≡ at marks p → Passed keys marks s k p → (mark ≡ 0 → ⊥) → (at keys (mark - 1) ≡ k → ⊥) → Passed keys marks s k (p + 1)
-  one-passed p m b z d = record { passed = λ e h g. by e h g (eqb e p) refl }
-    where
-      by : (e : ℕ) → s ≤ e → e < p + 1 → (t : Bool) → eqb e p ≡ t → (at marks e ≡ 0 → ⊥) × (at keys (at marks e - 1) ≡ k → ⊥)
-      by e h g true q = rw (eqb-true e p q, ← m) (z, d)
-      by e h g false q = let n = eqb-false e p q in b.passed e h (omega arith)
-
-  pub free-at : (p : ℕ) {mark : ℕ} → mark ≡ at marks p → s ≤ p → p < s + 8 → Passed keys marks s k p → mark ≡ 0 → Free keys marks s k p
-  free-at p m h g b z = record { from-home = h; near = g; free = sym m ∙ z; before = b }
+use Rattle.distinct.specs.Distinct.{at, home, Distinct, Free}
 
 -- ---------------------------------------------------------------- the numbers marked so far
 
@@ -55,12 +39,6 @@ none-marked keys = record {
 
 home_below : (k : ℕ) → home k < 2039
 home_below k = let p : 0 < 2039 = omega arith in mod-lt k p
-
-pub byte-below : (k : ℕ) → k % 256 < 256
-byte-below k = let p : 0 < 256 = omega arith in mod-lt k p
-
-pub spot-asks : (keys marks : List ℕ) (i : ℕ) → 256 ≤ length keys → Marked keys marks i → (256 ≤ length keys) × (home (at keys i) + 8 ≤ length marks) × (length marks ≡ 2048)
-spot-asks keys marks i long h = (long, (let a = h.size in let b = home_below (at keys i) in omega arith), h.size)
 
 module _ (keys marks : List ℕ) (i r : ℕ) (few : i < 256) (h : Marked keys marks i) (f : Free keys marks (home (at keys i)) (at keys i) r) where
   -- the look met no earlier number that is the same

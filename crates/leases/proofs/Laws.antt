@@ -21,6 +21,13 @@ use Rattle.laws.specs.One.{changed, without}
 use Rattle.laws.specs.Change.{settings_bytes, empty-bytes, live_row, live-is, tidied, ending, on_records, held, sound-fits, tidied-bytes, extended-bytes, bound-bytes, removed-bytes}
 use Rattle.leases.specs.Values.{settings_for}
 
+-- a sound table is as long as every table, and has at most 256 records
+pub sound_size : (b : List ℕ) → sound_bytes b ≡ true → length b ≡ table_size
+sound_size b h = (held b h).size
+
+pub sound_few : (b : List ℕ) → sound_bytes b ≡ true → count_of b ≤ 256
+sound_few b h = (held b h).few
+
 -- n bytes e were written over l from a place, and gave m
 pub record Wrote (at n : ℕ) (e l m : List ℕ) : Type 0 where
   pub is : m ≡ splice at e l

@@ -25,11 +25,9 @@ fn drop_ended(t: &mut [u8], n: usize, time: u64) -> usize
     requires { (n ≤ 256) × (table_size ≤ length t.old) }
     ensures { (result ≡ length (kept (live_row time) n t.old)) × (t.new ≡ dropped (live_row time) n t.old) }
 {
-    let mut i: usize = 0;
-    let mut j: usize = 0;
-    while i < n {
+    let mut j = 0;
+    for i in 0..n {
         j = step(t, i, j, time);
-        i += 1;
     }
     cells::clear(t, 176 + j * 153, (n - j) * 153);
     j

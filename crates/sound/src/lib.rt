@@ -141,12 +141,10 @@ fn rows_good(t: &[u8], n: usize, s: Setup) -> bool
     requires { (n ≤ 256) × (table_size ≤ length t.now) × Agrees s t.now }
     ensures { result ≡ all (good_row (settings_of t.now)) (from (row_at t.now) 0 n) }
 {
-    let mut i: usize = 0;
-    while i < n {
+    for i in 0..n {
         if !good_row(t, i, s) {
             return false;
         }
-        i += 1;
     }
     true
 }

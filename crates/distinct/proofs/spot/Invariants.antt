@@ -1,10 +1,6 @@
-use Rattle.std.proofs.Common.{◌+◌, ◌-◌, ◌≤◌}
 use Rattle.distinct.specs.Distinct.{Passed}
 use Rattle.distinct.proofs.spot.Given as goal
 
 -- `spot`: the places from s to before p are marked, and not for k.
 abbrev pub invariant-loop-p : goal.invariant-loop-p
-invariant-loop-p l = (l.s ≤ l.p) × (l.p ≤ l.s + 8) × Passed l.keys l.marks l.s l.k l.p
-
-abbrev pub decreases-loop-p : goal.decreases-loop-p
-decreases-loop-p l = l.s + 8 - l.p
+invariant-loop-p l = Passed l.keys l.marks l.s l.k l.p

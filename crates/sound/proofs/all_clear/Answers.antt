@@ -10,7 +10,7 @@ pub returns-then-not-area : goal.returns-then-not-area
 returns-then-not-area c = rw c.if-not-area.true c.no_name_twice.ensures
 
 pub apart-requires : goal.apart-requires
-apart-requires c = (search rules, search rules, search rules, between _ _ _ _ c.requires.2 _ c.put_keys-2.ensures)
+apart-requires c = (search rules, search rules, between _ _ _ _ c.requires.2 _ c.put_keys-2.ensures)
 
 pub returns : goal.returns
 returns c = rw c.if-not-area.false c.apart.ensures

@@ -1,9 +1,6 @@
 use Rattle.std.proofs.Common.{refl}
-use Rattle.laws.specs.Rows.{going, going_on, gone-through}
+use Rattle.laws.specs.Rows.{going_on, gone-through}
 use Rattle.leases.proofs.ended.drop_ended.Goals as goal
-
-pub loop-i-init : goal.loop-i-init
-loop-i-init c = going _ _ _
 
 pub loop-i-preserved : goal.loop-i-preserved
 loop-i-preserved c = going_on _ _ _ _ _ _ c.loop-i.invariant c.loop-i-test.true c.requires.0 c.requires.1 _ _ _ refl c.step-j.ensures.0 c.step-j.ensures.1

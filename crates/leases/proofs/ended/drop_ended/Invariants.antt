@@ -1,4 +1,3 @@
-use Rattle.std.proofs.Common.{◌-◌}
 use Rattle.laws.specs.Change.{live_row}
 use Rattle.laws.specs.Rows.{Going}
 use Rattle.leases.proofs.ended.drop_ended.Given as goal
@@ -6,6 +5,3 @@ use Rattle.leases.proofs.ended.drop_ended.Given as goal
 -- What is kept so far, and what will be kept of the rest, is the result.
 abbrev pub invariant-loop-i : goal.invariant-loop-i
 invariant-loop-i l = Going (live_row l.time) l.n l.initial.t l.t l.i l.j
-
-abbrev pub decreases-loop-i : goal.decreases-loop-i
-decreases-loop-i l = l.n - l.i
