@@ -3,7 +3,8 @@
 --   low, read       the last bytes of a number; the number in the last bytes of a word
 --   or-zeros        the bytes together are zero where each of them is
 --   zero-ends       zeros in the first block and in the last one, where there is no room for a third
---   equal           what `==` says; last-other: lists whose last eight bytes differ
+--   equal           what `==` says; last-other: lists whose last bytes differ; same-more: one byte more is compared
+--   written         all of these but `read` and `last-other`: src/lib.rt names them for every goal
 use Rattle.std.proofs.Common.{◌≡◌, ℕ, zero, suc, ◌+◌, ◌-◌, ◌*◌, ◌/◌, ◌%◌, ◌^◌, ◌≤◌, ◌<◌, Bool, true, false, ◌&&◌, List, [], ◌∷◌, ◌++◌, eqb, length, get_or, take, drop, replicate, refl, sym, ap, ◌∙◌, arith, zero-add, zero-mul, suc-add, append_assoc, append-nil, length-append, drop-drop, ne_eqb, bit_or, Fits, w8, w64}
 use Rattle.std.proofs.Math.Bool.{and_assoc, and-true}
 use Rattle.std.proofs.Math.Dec.{eqb-suc-zero}
@@ -18,10 +19,10 @@ use Rattle.std.specs.List.{fold, copy_within}
 use borrow.Rule.Slice.PartMut.{put_mid}
 use Rattle.rules.specs.Words.{all, part, splice, same_bytes, num, be, num_at}
 use Rattle.laws.specs.Bits.{num-append, num-zeros}
-use Rattle.laws.specs.Kinds.{bytes-true}
+use Rattle.laws.specs.Kinds.{bytes-true, bytes-refl}
 use Rattle.laws.specs.Numbers.{length-be, num_at-is, num_at-fits}
-use Rattle.laws.specs.Parts.{length_part, part-part}
-use Rattle.laws.specs.Same.{filled_put}
+use Rattle.laws.specs.Parts.{length_part, part-part, part-cons}
+use Rattle.laws.specs.Same.{filled_put, same-append}
 use Rattle.laws.specs.Tests.{same_test}
 
 -- ---------------------------------------------------------------- parts written
@@ -132,15 +133,27 @@ module _ (t s : List ℕ) (at : ℕ) where
   pub equal : pointwise eqb (take (at + length s - at) (drop at t)) s ≡ same_bytes (part at (length s) t) s
   equal = rw cut (same-pointwise (part at (length s) t) s)
 
-  pub last-other : 8 ≤ length s → (num_at t (at + (length s - 8)) 8 ≡ num_at s (length s - 8) 8 → ⊥) → false ≡ same_bytes (part at (length s) t) s
-  last-other h g = by (same_bytes (part at (length s) t) s) refl
+  -- the last ones differ
+  pub last-other : (w : ℕ) → w ≤ length s → same_bytes (part (at + (length s - w)) w t) (part (length s - w) w s) ≡ false → false ≡ same_bytes (part at (length s) t) s
+  last-other w h d = by (same_bytes (part at (length s) t) s) refl
     where
       by : (b : Bool) → same_bytes (part at (length s) t) s ≡ b → false ≡ b
       by true e =
-          let p : part (length s - 8) 8 (part at (length s) t) ≡ part (at + (length s - 8)) 8 t = part-part (length s - 8) 8 at (length s) t (omega arith) in
-          absurd (g (ap (λ l. num l % 2 ^ 64) (sym p ∙ ap (part (length s - 8) 8) (bytes-true _ _ e))))
+          let i = length s - w in
+          let p : part i w (part at (length s) t) ≡ part (at + i) w t = part-part i w at (length s) t (omega arith) in
+          let q : part (at + i) w t ≡ part i w s = sym p ∙ ap (part i w) (bytes-true _ _ e) in
+          sym d ∙ ap (λ l. same_bytes l (part i w s)) q ∙ bytes-refl (part i w s)
       by false e = refl
 
--- ---------------------------------------------------------------- what the check tries at each goal
+part-more : (i k : ℕ) (l : List ℕ) → i + k < length l → part i (k + 1) l ≡ part i k l ++ (get_or l (i + k) 0 ∷ [])
+unfolding part
+part-more i k l h = rw (take-add, drop-drop) (ap (λ e. take k (drop i l) ++ e) (part-cons (i + k) 0 l 0 h))
 
-pub ruleset written = (cut, put, moved, equal, last-other, zero-ends, filled_put, low, length-be, or-zeros)
+-- one byte more is compared
+pub same-more : (t s : List ℕ) (i j k : ℕ) {x : Bool} → i + k < length t → j + k < length s → x ≡ same_bytes (part i k t) (part j k s)
+    → x && eqb (get_or t (i + k) 0) (get_or s (j + k) 0) ≡ same_bytes (part i (k + 1) t) (part j (k + 1) s)
+same-more t s i j k h g e =
+    let l : length (part i k t) ≡ length (part j k s) = length_part i k t (omega arith) ∙ sym (length_part j k s (omega arith)) in
+    rw (e, part-more i k t h, part-more j k s g, same-append _ _ _ _ l, and-true) refl
+
+pub ruleset written = (cut, put, moved, equal, same-more, zero-ends, filled_put, low, length-be, or-zeros)

@@ -87,13 +87,28 @@ pub fn put_filled(t: &mut [u8], at: usize, n: usize, s: &[u8])
     clear(t, at + k, n - k);
 }
 
+// Whether the N bytes of t from i are those of s from j. All are compared, so that the compiler takes 16 at once.
+fn same_block<const N: usize>(t: &[u8], i: usize, s: &[u8], j: usize) -> bool
+    requires { (i + N ≤ length t.now) × (j + N ≤ length s.now) }
+    ensures { result ≡ same_bytes (part i N t.now) (part j N s.now) }
+{
+    let mut same = true;
+    for k in 0..N {
+        same &= t[i + k] == s[j + k];
+    }
+    same
+}
+
 // Whether the bytes from `at` are those of s. The last ones are compared first: there DUIDs of one maker differ.
 pub fn same_bytes(t: &[u8], at: usize, s: &[u8]) -> bool
     requires { at + length s.now ≤ length t.now }
     ensures { result ≡ same_bytes (part at (length s.now) t.now) s.now }
 {
     let n = s.len();
-    if 8 <= n && get(t, at + (n - 8), 8) != get(s, n - 8, 8) {
+    if 32 <= n && !same_block::<32>(t, at + (n - 32), s, n - 32) {
+        return false;
+    }
+    if 8 <= n && !same_block::<8>(t, at + (n - 8), s, n - 8) {
         return false;
     }
     t[at..at + n] == s[..]
