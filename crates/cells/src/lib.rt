@@ -20,20 +20,6 @@ pub fn bytes_at<const N: usize>(t: &[u8], at: usize) -> [u8; N]
     d
 }
 
-pub fn get16(t: &[u8], at: usize) -> [u8; 16]
-    requires { at + 16 ≤ length t.now }
-    ensures { result ≡ part at 16 t.now }
-{
-    bytes_at(t, at)
-}
-
-pub fn get130(t: &[u8], at: usize) -> [u8; 130]
-    requires { at + 130 ≤ length t.now }
-    ensures { result ≡ part at 130 t.now }
-{
-    bytes_at(t, at)
-}
-
 // The number in the n bytes from `at`, highest first.
 pub fn get(t: &[u8], at: usize, n: usize) -> u64
     requires { (at + n ≤ length t.now) × (n ≤ 8) }
