@@ -1,7 +1,5 @@
 // Bytes in a lent slice: numbers, copies, comparisons. Each write leaves the slice with one part put in.
-#![tactic(auto)]
-
-mod words; // words.rt: the same by whole words and blocks
+#![tactic(auto, using(crate::proofs::Laws::written))]
 
 ghost use Rattle.std.specs.Prelude.{◌≡◌, ◌+◌, ◌-◌, ◌*◌, ◌≤◌, ◌<◌, ◌^◌, eqb, length, replicate};
 ghost use Rattle.rules.specs.Words.{all, part, splice, filled, same_bytes, be, num_at};
@@ -9,7 +7,17 @@ ghost use Rattle.rules.specs.Words.{all, part, splice, filled, same_bytes, be, n
 pub fn wide(x: u8) -> u64
     ensures { (result ≡ x) × (result < 256) }
 {
-    x as u64
+    u64::from(x)
+}
+
+// The N bytes from `at`.
+pub fn bytes_at<const N: usize>(t: &[u8], at: usize) -> [u8; N]
+    requires { at + N ≤ length t.now }
+    ensures { result ≡ part at N t.now }
+{
+    let mut d = [0u8; N];
+    d.copy_from_slice(&t[at..at + N]);
+    d
 }
 
 // The number in the n bytes from `at`, highest first.
@@ -17,23 +25,9 @@ pub fn get(t: &[u8], at: usize, n: usize) -> u64
     requires { (at + n ≤ length t.now) × (n ≤ 8) }
     ensures { (result ≡ num_at t.now at n) × (result < 2 ^ (8 * n)) }
 {
-    if n == 8 {
-        return words::turned8(words::get8(t, at));
-    }
-    if n == 4 {
-        return words::turned4(words::get4(t, at));
-    }
-    if n == 2 {
-        return words::turned2(words::get2(t, at));
-    }
-    let mut v: u64 = 0;
-    let mut k: usize = 0;
-    while k < n {
-        let b = t[at + k];
-        v = v * 256 + wide(b);
-        k += 1;
-    }
-    v
+    let mut word = [0u8; 8];
+    word[8 - n..].copy_from_slice(&t[at..at + n]);
+    u64::from_be_bytes(word)
 }
 
 // The n bytes of v into those from `at`, highest first.
@@ -41,24 +35,8 @@ pub fn put(t: &mut [u8], at: usize, n: usize, v: u64)
     requires { (at + n ≤ length t.old) × (n ≤ 8) }
     ensures { t.new ≡ splice at (be n v) t.old }
 {
-    if n == 8 {
-        words::put8(t, at, words::turned8(v));
-        return;
-    }
-    if n == 4 {
-        words::put4(t, at, words::turned4(v));
-        return;
-    }
-    if n == 2 {
-        words::put2(t, at, words::turned2(v));
-        return;
-    }
-    let mut k: usize = 0;
-    while k < n {
-        let s = 8 * (n - (k + 1));
-        t[at + k] = ((v >> s) % 256) as u8;
-        k += 1;
-    }
+    let word = v.to_be_bytes();
+    t[at..at + n].copy_from_slice(&word[8 - n..]);
 }
 
 // The bytes of s into those from `at`.
@@ -66,11 +44,7 @@ pub fn copy(t: &mut [u8], at: usize, s: &[u8])
     requires { at + length s.now ≤ length t.old }
     ensures { t.new ≡ splice at s.now t.old }
 {
-    let mut k: usize = 0;
-    while k < s.len() {
-        t[at + k] = s[k];
-        k += 1;
-    }
+    t[at..at + s.len()].copy_from_slice(s);
 }
 
 // The n bytes from `from` into those from `to`, which is not above `from`: the two may overlap.
@@ -78,13 +52,7 @@ pub fn shift(t: &mut [u8], to: usize, from: usize, n: usize)
     requires { (to ≤ from) × (from + n ≤ length t.old) }
     ensures { t.new ≡ splice to (part from n t.old) t.old }
 {
-    let blocks = n / 16;
-    words::shift(t, to, from, blocks);
-    let mut k = 16 * blocks;
-    while k < n {
-        t[to + k] = t[from + k];
-        k += 1;
-    }
+    t.copy_within(from..from + n, to);
 }
 
 // Zeros into the n bytes from `at`.
@@ -92,11 +60,7 @@ pub fn clear(t: &mut [u8], at: usize, n: usize)
     requires { at + n ≤ length t.old }
     ensures { t.new ≡ splice at (replicate n 0) t.old }
 {
-    let mut k: usize = 0;
-    while k < n {
-        t[at + k] = 0;
-        k += 1;
-    }
+    t[at..at + n].fill(0);
 }
 
 // The bytes of s into those from `at`, and zeros after them: n in all.
@@ -109,46 +73,39 @@ pub fn put_filled(t: &mut [u8], at: usize, n: usize, s: &[u8])
     clear(t, at + k, n - k);
 }
 
-// Whether the bytes from `at` are those of s.
+// Whether the N bytes of t from i are those of s from j. All are compared, so that the compiler takes 16 at once.
+fn same_block<const N: usize>(t: &[u8], i: usize, s: &[u8], j: usize) -> bool
+    requires { (i + N ≤ length t.now) × (j + N ≤ length s.now) }
+    ensures { result ≡ same_bytes (part i N t.now) (part j N s.now) }
+{
+    let mut same = true;
+    for k in 0..N {
+        same &= t[i + k] == s[j + k];
+    }
+    same
+}
+
+// Whether the bytes from `at` are those of s. The last ones are compared first: there DUIDs of one maker differ.
 pub fn same_bytes(t: &[u8], at: usize, s: &[u8]) -> bool
     requires { at + length s.now ≤ length t.now }
     ensures { result ≡ same_bytes (part at (length s.now) t.now) s.now }
 {
-    if 32 <= s.len() {
-        return words::same(t, at, s);
+    let n = s.len();
+    if 32 <= n && !same_block::<32>(t, at + (n - 32), s, n - 32) {
+        return false;
     }
-    if 8 <= s.len() {
-        return words::ends_same(t, at, s);
+    if 8 <= n && !same_block::<8>(t, at + (n - 8), s, n - 8) {
+        return false;
     }
-    let mut k: usize = 0;
-    while k < s.len() {
-        if t[at + k] != s[k] {
-            return false;
-        }
-        k += 1;
-    }
-    true
+    t[at..at + n] == s[..]
 }
 
-// Whether the n bytes from `at` are zero.
+// Whether the n bytes from `at` are zero. All are looked at, in no order, so that the compiler takes 16 and more at once.
 pub fn all_zero(t: &[u8], at: usize, n: usize) -> bool
     requires { at + n ≤ length t.now }
     ensures { result ≡ all (eqb 0) (part at n t.now) }
 {
-    if 64 <= n {
-        return words::all_zero(t, at, n);
-    }
-    if 8 <= n {
-        return words::ends_zero(t, at, n);
-    }
-    let mut k: usize = 0;
-    while k < n {
-        if 0 != t[at + k] {
-            return false;
-        }
-        k += 1;
-    }
-    true
+    t[at..at + n].iter().fold(0, |any, b| any | *b) == 0
 }
 
 // The same of at most 128 bytes, as the zeros after a DUID: most are more than half of them, and take no loop.
@@ -157,26 +114,7 @@ pub fn few_zero(t: &[u8], at: usize, n: usize) -> bool
     ensures { result ≡ all (eqb 0) (part at n t.now) }
 {
     if 64 <= n {
-        return words::zero64(t, at) & words::zero64(t, at + (n - 64));
+        return all_zero(t, at, 64) & all_zero(t, at + (n - 64), 64);
     }
     all_zero(t, at, n)
-}
-
-// The 16 bytes from `at`, and the 130.
-pub fn get16(t: &[u8], at: usize) -> [u8; 16]
-    requires { at + 16 ≤ length t.now }
-    ensures { result ≡ part at 16 t.now }
-{
-    let mut d = [0u8; 16];
-    copy(&mut d, 0, &t[at..at + 16]);
-    d
-}
-
-pub fn get130(t: &[u8], at: usize) -> [u8; 130]
-    requires { at + 130 ≤ length t.now }
-    ensures { result ≡ part at 130 t.now }
-{
-    let mut d = [0u8; 130];
-    copy(&mut d, 0, &t[at..at + 130]);
-    d
 }

@@ -49,9 +49,9 @@ fn carried(t: &[u8]) -> IaPrefix
     requires { length t.now ≡ 384 }
     ensures { listed_of result [] ≡ first_for 0 (Some (lease_of (part 347 34 t.now))) }
 {
-    let bits = cells::get16(t, 347);
+    let bits = cells::bytes_at(t, 347);
     let length = cells::get(t, 363, 1) as usize;
-    let out = cells::get16(t, 364);
+    let out = cells::bytes_at(t, 364);
     let cut = cells::get(t, 380, 1) as usize;
     IaPrefix {
         preferred: 0,

@@ -42,7 +42,7 @@ pub fn record_at(t: &[u8], i: usize) -> Binding
     let length = cells::get(t, o + 13, 1);
     let excluded = cells::get(t, o + 14, 1) != 0;
     let end = clock::Moment(cells::get(t, o + 15, 8));
-    let duid = cells::get130(t, o + 23);
+    let duid = cells::bytes_at(t, o + 23);
     Binding {
         duid,
         len,

@@ -30,9 +30,9 @@ fn good_except(t: &[u8], at: usize) -> bool
     if b == 0 {
         return cells::all_zero(t, at + 17, 17);
     }
-    let p = cells::get16(t, at);
+    let p = cells::bytes_at(t, at);
     let a = cells::get(t, at + 16, 1) as usize;
-    prefix::exclude::encodable(p, a, cells::get16(t, at + 17), b)
+    prefix::exclude::encodable(p, a, cells::bytes_at(t, at + 17), b)
 }
 
 // The 34 bytes from `at` are a good delegation.
@@ -40,7 +40,7 @@ fn good_lease(t: &[u8], at: usize) -> bool
     requires { at + 34 ≤ length t.now }
     ensures { result ≡ lease_in at t.now }
 {
-    let p = cells::get16(t, at);
+    let p = cells::bytes_at(t, at);
     let a = cells::get(t, at + 16, 1) as usize;
     (a <= 128) & good_except(t, at) & prefix::whole::zero_after16(p, a)
 }

@@ -60,7 +60,7 @@ pub fn prefix_at(msg: &[u8], start: usize, len: usize) -> IaPrefix
     let preferred = u32_at(msg, start);
     let valid = u32_at(msg, start + 4);
     let length = u8_at(msg, start + 8);
-    let bits = cells::get16(msg, start + 9);
+    let bits = cells::bytes_at(msg, start + 9);
     let c = cut_in(msg, bits, length, start + 25, start + len);
     let cut = c.cut;
     let out = c.out;

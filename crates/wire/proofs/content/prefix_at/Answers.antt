@@ -10,4 +10,4 @@ cut_in-c-requires c = (c.requires.within, subst (λ (k : ℕ). check_prefix c.ar
 
 pub returns : goal.returns
 returns c = listed-read c.args.msg.now c.args.start c.args.len _ (λ i. (c.type_inv.msg i).fits) (omega (arith, c.requires.within, c.requires.long))
-    c.u32_at-preferred.ensures c.u32_at-valid.ensures c.u8_at-length.ensures.0 c.get16-bits.ensures c.cut_in-c.ensures
+    c.u32_at-preferred.ensures c.u32_at-valid.ensures c.u8_at-length.ensures.0 c.bytes_at-bits.ensures c.cut_in-c.ensures
