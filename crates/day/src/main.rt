@@ -29,23 +29,18 @@ fn day(rt: &impl Print, text: &[u8]) -> io::Result<()> {
     Ok(())
 }
 
-// Reads until the room is full or the input ends: how many bytes there are at its front.
-fn read_full(input: &mut impl Read, room: &mut [u8]) -> io::Result<usize>
-    ensures { IfOk result (λ n. n ≤ length room.new) }
+// Reads until the room is full or the input ends: the front of the room, as far as it was filled.
+fn read_full<'a>(input: &mut impl Read, room: &'a mut [u8]) -> io::Result<&'a [u8]>
+    ensures { IfOk result (λ text. length text.now ≤ length room.old) }
 {
-    let mut n = 0;
-    while n < room.len() {
-        let more = input.read(&mut room[n..])?;
-        if more == 0 {
-            break;
-        }
-        n += more;
-    }
-    Ok(n)
+    let size = room.len();
+    let mut rest = &mut room[..];
+    let n = io::copy(&mut input.by_ref().take(size as u64), &mut rest)?;
+    Ok(&room[..size.min(n as usize)])
 }
 
 fn main(rt: HostRuntime) -> io::Result<()> {
-    let mut text = [0u8; 65536];
-    let n = read_full(&mut rt.reader(), &mut text)?;
-    day(&rt, &text[..n])
+    let mut room = [0u8; 65536];
+    let text = read_full(&mut rt.reader(), &mut room)?;
+    day(&rt, text)
 }
