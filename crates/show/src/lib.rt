@@ -1,11 +1,9 @@
 // What the programs print: bytes in hexadecimal, and an operation's word taken apart.
 #![tactic(auto)]
 
-ghost use Rattle.std.specs.Prelude.{◌≡◌, ◌*◌, ◌/◌, ◌<◌, ◌≤◌, MatchResult};
+ghost use Rattle.std.specs.Prelude.{◌≡◌, ◌/◌, ◌<◌, ◌≤◌, MatchResult};
 
 use std::fmt;
-use std::io;
-use std::io::Print;
 
 // Bytes, each as two hexadecimal digits.
 #[derive(Clone, Copy)]
@@ -29,16 +27,4 @@ pub fn outcome(word: u64) -> Result<usize, u64>
     } else {
         Err(word / 65536)
     }
-}
-
-pub fn say(rt: &impl Print, text: &[u8]) -> io::Result<()> {
-    rt.write_all(text)
-}
-
-pub fn say_number(rt: &impl Print, n: usize) -> io::Result<()> {
-    rt.print(n)
-}
-
-pub fn say_hex(rt: &impl Print, b: &[u8]) -> io::Result<()> {
-    rt.print(Hex(b))
 }
