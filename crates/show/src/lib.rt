@@ -1,7 +1,8 @@
 // What the programs print: bytes in hexadecimal, and an operation's word taken apart.
 #![tactic(auto)]
 
-ghost use Rattle.std.specs.Prelude.{◌≡◌, ◌/◌, ◌<◌, ◌≤◌, MatchResult};
+ghost use Rattle.std.specs.Prelude.{◌≡◌, ◌/◌, ◌<◌, ◌≤◌, MatchResult, Some};
+ghost use Rattle.show.specs.Text.{hex_text};
 
 use std::fmt;
 
@@ -10,6 +11,8 @@ use std::fmt;
 pub struct Hex<'a>(pub &'a [u8]);
 
 impl fmt::Display for Hex<'_> {
+    ghost output = { λ h. Some (hex_text h.0.now) };
+
     fn fmt<W: fmt::Write>(&self, f: &mut fmt::Formatter<W>) -> fmt::Result {
         for b in self.0 {
             write!(f, "{b:02x}")?;
