@@ -8,12 +8,12 @@ use std::io;
 use std::io::Print;
 
 // What came of a message: the refusal's number, or the answer at the front of the room. What is written past it is told too.
-fn tell(rt: &impl Print, outcome: Result<usize, u64>, room: &[u8]) -> io::Result<()> {
-    match outcome {
+fn tell(rt: &impl Print, came: Result<usize, u64>, room: &[u8]) -> io::Result<()> {
+    match came {
         Ok(n) => print!(rt; "{}", Hex(room.get(..n).unwrap_or(b"")))?,
         Err(no) => print!(rt; "refused {no}")?,
     }
-    if room.iter().skip(outcome.unwrap_or(0)).any(|b| *b != 0xee) {
+    if room.iter().skip(came.unwrap_or(0)).any(|b| *b != 0xee) {
         print!(rt; " and more")?;
     }
     Ok(())
@@ -28,7 +28,7 @@ pub struct Day<'a, P> {
 
 impl<P: Print> Day<'_, P> {
     fn begin(&mut self, line: &[u8]) -> io::Result<()> {
-        let word = delegator::opening::start(
+        let came = outcome(delegator::opening::start(
             &mut self.table,
             number(line, 1, 16),
             0,
@@ -40,8 +40,8 @@ impl<P: Print> Day<'_, P> {
             number(line, 7, 10) == 1,
             bytes(line, 8, &mut [0u8; 4096]),
             number(line, 9, 10),
-        );
-        match outcome(word) {
+        ));
+        match came {
             Ok(_) => print!(self.rt; "started"),
             Err(no) => print!(self.rt; "refused {no}"),
         }
@@ -64,8 +64,8 @@ impl<P: Print> Day<'_, P> {
         let size = if number(line, 2, 10) == 511 { 511 } else { 512 };
         let mut room = [0xeeu8; 512];
         let room = &mut room[..size];
-        let word = handle(&mut self.table, time, text, room);
-        tell(self.rt, outcome(word), room)
+        let came = outcome(handle(&mut self.table, time, text, room));
+        tell(self.rt, came, room)
     }
 
     // A message again and again, each time with the turn's number in the two bytes from a place; the last outcome.

@@ -16,7 +16,7 @@ pub struct BoxEnd<'a, P> {
 impl<'a, P: Print> BoxEnd<'a, P> {
     // Pool 2001:db8:0:aa00::/56, S 56, D 60, preferred 601, valid 900, exclusion on.
     pub fn starts(&mut self, duid: &[u8], time: u64) -> io::Result<()> {
-        let word = delegator::opening::start(
+        let came = outcome(delegator::opening::start(
             &mut self.table,
             0x2001_0db8_0000_aa00,
             0,
@@ -28,8 +28,8 @@ impl<'a, P: Print> BoxEnd<'a, P> {
             true,
             duid,
             time,
-        );
-        let end = ended(outcome(word), duid);
+        ));
+        let end = ended(came, duid);
         println!(self.rt; "{time} box starts, DUID of {} bytes: {end}", duid.len())
     }
 
@@ -41,13 +41,10 @@ impl<'a, P: Print> BoxEnd<'a, P> {
         how: &str,
         room: &'r mut [u8; 512],
     ) -> io::Result<&'r [u8]> {
-        let word = delegator::handling::handle(&mut self.table, time, msg, room);
-        let answer = written(room, outcome(word));
-        let heard = Heard { msg, how };
-        println!(self.rt;
-            "{time} box hears: {heard}: {}",
-            ended(outcome(word), answer)
-        )?;
+        let came = outcome(delegator::handling::handle(&mut self.table, time, msg, room));
+        let answer = written(room, came);
+        let (heard, end) = (Heard { msg, how }, ended(came, answer));
+        println!(self.rt; "{time} box hears: {heard}: {end}")?;
         Ok(answer)
     }
 
@@ -61,9 +58,9 @@ impl<'a, P: Print> BoxEnd<'a, P> {
     // The first record, up to a DUID's first ten bytes.
     pub fn shows(&self, time: u64) -> io::Result<()> {
         let mut room = [0u8; 153];
-        let word = delegator::showing::record_at(&self.table, 0, &mut room);
+        let came = outcome(delegator::showing::record_at(&self.table, 0, &mut room));
         let end = End {
-            outcome: outcome(word),
+            outcome: came,
             text: part(&room, 33),
             none: "none",
         };
@@ -81,20 +78,19 @@ pub struct RouterEnd<'a, P> {
 impl<'a, P: Print> RouterEnd<'a, P> {
     pub fn starts(&mut self, duid: &[u8], iaid: u32, wanted: u64, time: u64) -> io::Result<()> {
         let word = requester::opening::start(&mut self.state, duid, iaid, wanted, time);
-        let n = duid.len();
-        let end = ended(outcome(word), duid);
+        let (n, end) = (duid.len(), ended(outcome(word), duid));
         println!(self.rt; "{time} router starts, DUID of {n} bytes, wanted length {wanted}: {end}")
     }
 
-    fn send(&mut self, kind: Kind, time: u64, room: &mut [u8; 512]) -> u64 {
+    fn send(&mut self, kind: Kind, time: u64, room: &mut [u8; 512]) -> Result<usize, u64> {
         let state = &mut self.state;
-        match kind {
+        outcome(match kind {
             Kind::Solicit => requester::asking::solicit(state, time, room),
             Kind::Request => requester::asking::request(state, time, room),
             Kind::Renew => requester::asking::renew(state, time, room),
             Kind::Rebind => requester::asking::rebind(state, time, room),
             Kind::Release => requester::asking::release(state, time, room),
-        }
+        })
     }
 
     // A message is sent, and returned.
@@ -104,45 +100,36 @@ impl<'a, P: Print> RouterEnd<'a, P> {
         time: u64,
         room: &'r mut [u8; 512],
     ) -> io::Result<&'r [u8]> {
-        let word = self.send(kind, time, room);
-        let sent = written(room, outcome(word));
-        let name = Type::from(kind);
-        println!(self.rt;
-            "{time} router sends a {name}: {}",
-            ended(outcome(word), sent)
-        )?;
+        let came = self.send(kind, time, room);
+        let sent = written(room, came);
+        let (name, end) = (Type::from(kind), ended(came, sent));
+        println!(self.rt; "{time} router sends a {name}: {end}")?;
         Ok(sent)
     }
 
     pub fn resends<'r>(&mut self, time: u64, room: &'r mut [u8; 512]) -> io::Result<&'r [u8]> {
-        let word = requester::asking::resend(&mut self.state, time, room);
-        let sent = written(room, outcome(word));
-        println!(self.rt;
-            "{time} router sends it again: {}",
-            ended(outcome(word), sent)
-        )?;
+        let came = outcome(requester::asking::resend(&mut self.state, time, room));
+        let sent = written(room, came);
+        println!(self.rt; "{time} router sends it again: {}", ended(came, sent))?;
         Ok(sent)
     }
 
     pub fn abandons(&mut self, time: u64) -> io::Result<()> {
-        let word = requester::asking::abandon(&mut self.state, time);
-        println!(self.rt; "{time} router abandons it: {}", ended(outcome(word), b"-"))
+        let came = outcome(requester::asking::abandon(&mut self.state, time));
+        println!(self.rt; "{time} router abandons it: {}", ended(came, b"-"))
     }
 
     pub fn hears(&mut self, time: u64, msg: &[u8], how: &str) -> io::Result<()> {
-        let word = requester::hearing::receive(&mut self.state, time, msg);
-        let heard = Heard { msg, how };
-        println!(self.rt;
-            "{time} router hears: {heard}: {}",
-            ended(outcome(word), msg)
-        )
+        let came = outcome(requester::hearing::receive(&mut self.state, time, msg));
+        let (heard, end) = (Heard { msg, how }, ended(came, msg));
+        println!(self.rt; "{time} router hears: {heard}: {end}")
     }
 
     pub fn holds(&self, time: u64) -> io::Result<()> {
         let mut room = [0u8; 42];
-        let word = requester::showing::held(&self.state, time, &mut room);
+        let came = outcome(requester::showing::held(&self.state, time, &mut room));
         let end = End {
-            outcome: outcome(word),
+            outcome: came,
             text: &room,
             none: "nothing",
         };
@@ -166,7 +153,7 @@ impl<'a, P: Print> RouterEnd<'a, P> {
     }
 }
 
-// A step that is done, or refused.
+// A step that has no text is done.
 fn ended(outcome: Result<usize, u64>, text: &[u8]) -> End {
     End {
         outcome,
