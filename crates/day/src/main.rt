@@ -12,64 +12,35 @@ mod words; // words.rt: the words of a line, as numbers and bytes
 
 ghost use Rattle.std.specs.Prelude.{◌≤◌, IfOk, length};
 
+use crate::steps::Day;
 use std::io;
 use std::io::{Input, Print, Read};
 
-// Where the line ends in which a place lies.
-fn line_end(text: &[u8], from: usize) -> usize
-    requires { from ≤ length text.now }
-    ensures { (from ≤ result) × (result ≤ length text.now) }
-{
-    let mut i = from;
-    while i < text.len() {
-        if text[i] == b'\n' {
-            return i;
-        }
-        i += 1;
-    }
-    i
-}
-
-fn numbered(rt: &impl Print, table: &mut [u8; 39344], step: usize, line: &[u8]) -> io::Result<()> {
-    show::say_number(rt, step)?;
-    show::say(rt, b" ")?;
-    steps::run(rt, table, line)?;
-    show::say(rt, b"\n")
-}
-
 fn day(rt: &impl Print, text: &[u8]) -> io::Result<()> {
-    let mut table = [0u8; 39344];
-    let mut at = 0;
-    let mut step = 0;
-    while at < text.len() {
-        let end = line_end(text, at);
-        step += 1;
-        numbered(rt, &mut table, step, &text[at..end])?;
-        if end == text.len() {
-            return Ok(());
-        }
-        at = end + 1;
+    let mut day = Day {
+        rt,
+        table: [0u8; 39344],
+    };
+    for (step, line) in (1usize..).zip(text.split_inclusive(|b| *b == b'\n')) {
+        print!(rt; "{step} ")?;
+        day.run(line.strip_suffix(b"\n").unwrap_or(line))?;
+        println!(rt)?;
     }
     Ok(())
 }
 
-// Reads until the room is full or the input ends: how many bytes there are at its front.
-fn read_full(input: &mut impl Read, room: &mut [u8]) -> io::Result<usize>
-    ensures { IfOk result (λ n. n ≤ length room.new) }
+// Reads until the room is full or the input ends: the front of the room, as far as it was filled.
+fn read_full<'a>(input: &mut impl Read, room: &'a mut [u8]) -> io::Result<&'a [u8]>
+    ensures { IfOk result (λ text. length text.now ≤ length room.old) }
 {
-    let mut n = 0;
-    while n < room.len() {
-        let more = input.read(&mut room[n..])?;
-        if more == 0 {
-            break;
-        }
-        n += more;
-    }
-    Ok(n)
+    let size = room.len();
+    let mut rest = &mut room[..];
+    let n = io::copy(&mut input.by_ref().take(size as u64), &mut rest)?;
+    Ok(&room[..size.min(n as usize)])
 }
 
 fn main(rt: HostRuntime) -> io::Result<()> {
-    let mut text = [0u8; 65536];
-    let n = read_full(&mut rt.reader(), &mut text)?;
-    day(&rt, &text[..n])
+    let mut room = [0u8; 65536];
+    let text = read_full(&mut rt.reader(), &mut room)?;
+    day(&rt, text)
 }

@@ -3,171 +3,111 @@ ghost use Rattle.std.specs.Prelude.{◌+◌, ◌≤◌, length};
 
 use crate::words::{bytes, number};
 use delegator::handling::handle;
-use show::{say, say_hex, say_number};
+use show::{Hex, outcome};
 use std::io;
 use std::io::Print;
 
-// Whether the room from a place on is as it was lent.
-fn as_lent(room: &[u8], from: usize) -> bool {
-    let mut i = from;
-    while i < room.len() {
-        if room[i] != 0xee {
-            return false;
-        }
-        i += 1;
+// What came of a message: the refusal's number, or the answer at the front of the room. What is written past it is told too.
+fn tell(rt: &impl Print, came: Result<usize, u64>, room: &[u8]) -> io::Result<()> {
+    match came {
+        Ok(n) => print!(rt; "{}", Hex(room.get(..n).unwrap_or(b"")))?,
+        Err(no) => print!(rt; "refused {no}")?,
     }
-    true
-}
-
-// A word of the box: the refusal's number, or the answer that stands at the front of the room. What is written past it is told
-// too.
-fn tell(rt: &impl Print, word: u64, room: &[u8]) -> io::Result<()> {
-    let n = (word % 65536) as usize;
-    if 65535 < word {
-        say(rt, b"refused ")?;
-        say_number(rt, (word / 65536) as usize)?;
-    } else {
-        if n <= room.len() {
-            say_hex(rt, &room[..n])?;
-        }
-    }
-    if !as_lent(room, n) {
-        say(rt, b" and more")?;
+    if room.iter().skip(came.unwrap_or(0)).any(|b| *b != 0xee) {
+        print!(rt; " and more")?;
     }
     Ok(())
 }
 
-fn begin(rt: &impl Print, table: &mut [u8; 39344], line: &[u8]) -> io::Result<()> {
-    let mut room = [0u8; 4096];
-    let n = bytes(line, 8, &mut room);
-    let word = delegator::opening::start(
-        table,
-        number(line, 1, 16),
-        0,
-        number(line, 2, 10),
-        number(line, 3, 10),
-        number(line, 4, 10),
-        (number(line, 5, 10) % 0x1_0000_0000) as u32,
-        (number(line, 6, 10) % 0x1_0000_0000) as u32,
-        number(line, 7, 10) == 1,
-        &room[..n],
-        number(line, 9, 10),
-    );
-    if word == 0 {
-        say(rt, b"started")?;
-    }
-    tell(rt, word, b"")
+// The box of the day, and who tells what comes of its steps.
+#[derive(Drop)]
+pub struct Day<'a, P> {
+    pub rt: &'a P,
+    pub table: [u8; 39344],
 }
 
-fn count(rt: &impl Print, table: &[u8; 39344], time: u64) -> io::Result<()> {
-    let word = delegator::showing::live(table, time);
-    if word < 65536 {
-        say(rt, b"live ")?;
-        say_number(rt, word as usize)?;
-        return Ok(());
+impl<P: Print> Day<'_, P> {
+    fn begin(&mut self, line: &[u8]) -> io::Result<()> {
+        let came = outcome(delegator::opening::start(
+            &mut self.table,
+            number(line, 1, 16),
+            0,
+            number(line, 2, 10),
+            number(line, 3, 10),
+            number(line, 4, 10),
+            (number(line, 5, 10) % 0x1_0000_0000) as u32,
+            (number(line, 6, 10) % 0x1_0000_0000) as u32,
+            number(line, 7, 10) == 1,
+            bytes(line, 8, &mut [0u8; 4096]),
+            number(line, 9, 10),
+        ));
+        match came {
+            Ok(_) => print!(self.rt; "started"),
+            Err(no) => print!(self.rt; "refused {no}"),
+        }
     }
-    tell(rt, word, b"")
-}
 
-fn answer(
-    rt: &impl Print,
-    table: &mut [u8; 39344],
-    time: u64,
-    message: &[u8],
-    room: &mut [u8],
-) -> io::Result<()> {
-    let word = handle(table, time, message, room);
-    tell(rt, word, room)
-}
+    fn count(&self, time: u64) -> io::Result<()> {
+        match outcome(delegator::showing::live(&self.table, time)) {
+            Ok(n) => print!(self.rt; "live {n}"),
+            Err(no) => print!(self.rt; "refused {no}"),
+        }
+    }
 
-fn message(rt: &impl Print, table: &mut [u8; 39344], line: &[u8]) -> io::Result<()> {
-    let time = number(line, 0, 10);
-    let mut text = [0u8; 4096];
-    let n = bytes(line, 1, &mut text);
-    if n == 0 {
-        count(rt, table, time)?;
-        return Ok(());
+    fn message(&mut self, line: &[u8]) -> io::Result<()> {
+        let time = number(line, 0, 10);
+        let mut text = [0u8; 4096];
+        let text = bytes(line, 1, &mut text);
+        if text.is_empty() {
+            return self.count(time);
+        }
+        let size = if number(line, 2, 10) == 511 { 511 } else { 512 };
+        let mut room = [0xeeu8; 512];
+        let room = &mut room[..size];
+        let came = outcome(handle(&mut self.table, time, text, room));
+        tell(self.rt, came, room)
     }
-    if number(line, 2, 10) == 511 {
-        answer(rt, table, time, &text[..n], &mut [0xeeu8; 511])?;
-        return Ok(());
-    }
-    answer(rt, table, time, &text[..n], &mut [0xeeu8; 512])
-}
 
-// A message with a number in the two bytes from a place, handled.
-fn turn(
-    table: &mut [u8; 39344],
-    time: u64,
-    text: &mut [u8],
-    at: usize,
-    i: u64,
-    room: &mut [u8],
-) -> u64
-    requires { at + 2 ≤ length text.old }
-{
-    cells::put(text, at, 2, i);
-    handle(table, time, text, room)
-}
+    // A message again and again, each time with the turn's number in the two bytes from a place; the last outcome.
+    fn repeat(
+        &mut self,
+        time: u64,
+        turns: u64,
+        text: &mut [u8],
+        at: usize,
+        room: &mut [u8],
+    ) -> Result<usize, u64>
+        requires { at + 2 ≤ length text.old }
+    {
+        let mut last = Ok(0);
+        for i in 0..turns {
+            cells::put(text, at, 2, i);
+            last = outcome(handle(&mut self.table, time, text, room));
+        }
+        last
+    }
 
-// A message again and again, each time with the turn's number in it; the last word.
-fn repeat(
-    table: &mut [u8; 39344],
-    time: u64,
-    turns: u64,
-    text: &mut [u8],
-    at: usize,
-    room: &mut [u8],
-) -> u64
-    requires { at + 2 ≤ length text.old }
-{
-    let mut word = 0;
-    let mut i = 0;
-    while i < turns {
-        word = turn(table, time, text, at, i, room);
-        i += 1;
+    // The same, and the last answer told; nothing where the place isn't in the message.
+    fn fill(&mut self, line: &[u8]) -> io::Result<()> {
+        let mut text = [0u8; 4096];
+        let text = bytes(line, 4, &mut text);
+        let time = number(line, 1, 10);
+        let turns = number(line, 2, 10);
+        let at = number(line, 3, 10) as usize;
+        if text.len() < 2 || text.len() - 2 < at {
+            return Ok(());
+        }
+        let mut room = [0xeeu8; 512];
+        let last = self.repeat(time, turns, text, at, &mut room);
+        tell(self.rt, last, &room)
     }
-    word
-}
 
-// The same, and the last answer told; nothing where the place isn't in the message.
-fn fill_in(
-    rt: &impl Print,
-    table: &mut [u8; 39344],
-    time: u64,
-    turns: u64,
-    text: &mut [u8],
-    at: usize,
-) -> io::Result<()> {
-    if text.len() < 2 {
-        return Ok(());
+    pub fn run(&mut self, line: &[u8]) -> io::Result<()> {
+        match line.first() {
+            None => Ok(()),
+            Some(b's') => self.begin(line),
+            Some(b'f') => self.fill(line),
+            Some(_) => self.message(line),
+        }
     }
-    if text.len() - 2 < at {
-        return Ok(());
-    }
-    let mut room = [0xeeu8; 512];
-    let word = repeat(table, time, turns, text, at, &mut room);
-    tell(rt, word, &room)
-}
-
-fn fill(rt: &impl Print, table: &mut [u8; 39344], line: &[u8]) -> io::Result<()> {
-    let mut text = [0u8; 4096];
-    let n = bytes(line, 4, &mut text);
-    let time = number(line, 1, 10);
-    let turns = number(line, 2, 10);
-    let at = number(line, 3, 10) as usize;
-    fill_in(rt, table, time, turns, &mut text[..n], at)
-}
-
-pub fn run(rt: &impl Print, table: &mut [u8; 39344], line: &[u8]) -> io::Result<()> {
-    if line.len() == 0 {
-        return Ok(());
-    }
-    let c = line[0];
-    match c {
-        b's' => begin(rt, table, line)?,
-        b'f' => fill(rt, table, line)?,
-        _ => message(rt, table, line)?,
-    }
-    Ok(())
 }

@@ -1,162 +1,168 @@
 // The two ends: each operation with its line.
-use crate::speak::{say_at, say_end, say_message, say_type};
-use crate::texts::{part, text};
-use show::{say, say_number};
+use crate::speak::{End, Heard, Type};
+use crate::texts::part;
+use rules::Kind;
+use show::outcome;
 use std::io;
 use std::io::Print;
 
-// Pool 2001:db8:0:aa00::/56, S 56, D 60, preferred 601, valid 900, exclusion on.
-pub fn box_starts(
-    rt: &impl Print,
-    table: &mut [u8; 39344],
-    duid: &[u8],
-    time: u64,
-) -> io::Result<()> {
-    let word = delegator::opening::start(
-        table,
-        0x2001_0db8_0000_aa00,
-        0,
-        56,
-        56,
-        60,
-        601,
-        900,
-        true,
-        duid,
-        time,
-    );
-    say_at(rt, time, b" box starts, DUID of ")?;
-    say_number(rt, duid.len())?;
-    say(rt, b" bytes")?;
-    say_end(rt, word, duid, b"done")
+// The box, which tells what it does.
+#[derive(Drop)]
+pub struct BoxEnd<'a, P> {
+    pub rt: &'a P,
+    pub table: [u8; 39344],
 }
 
-pub fn box_hears(
-    rt: &impl Print,
-    table: &mut [u8; 39344],
-    time: u64,
-    msg: &[u8],
-    how: &[u8],
-    answer: &mut [u8; 512],
-) -> io::Result<u64> {
-    let word = delegator::handling::handle(table, time, msg, answer);
-    say_at(rt, time, b" box hears: ")?;
-    say_message(rt, msg, how)?;
-    say_end(rt, word, text(answer, word), b"done")?;
-    Ok(word)
-}
-
-pub fn box_counts(rt: &impl Print, table: &[u8; 39344], time: u64) -> io::Result<()> {
-    say_at(rt, time, b" box has live: ")?;
-    say_number(rt, delegator::showing::live(table, time) as usize)?;
-    say(rt, b"\n")
-}
-
-// The first record, up to a DUID's first ten bytes.
-pub fn box_shows(rt: &impl Print, table: &[u8; 39344], time: u64) -> io::Result<()> {
-    let mut room = [0u8; 153];
-    let word = delegator::showing::record_at(table, 0, &mut room);
-    say_at(rt, time, b" box's first record")?;
-    say_end(rt, word, part(&room, 33), b"none")
-}
-
-pub fn router_starts(
-    rt: &impl Print,
-    state: &mut [u8; 384],
-    duid: &[u8],
-    iaid: u32,
-    wanted: u64,
-    time: u64,
-) -> io::Result<()> {
-    let word = requester::opening::start(state, duid, iaid, wanted, time);
-    say_at(rt, time, b" router starts, DUID of ")?;
-    say_number(rt, duid.len())?;
-    say(rt, b" bytes, wanted length ")?;
-    say_number(rt, wanted as usize)?;
-    say_end(rt, word, duid, b"done")
-}
-
-fn send(state: &mut [u8; 384], kind: u8, time: u64, room: &mut [u8; 512]) -> u64 {
-    if kind == 1 {
-        return requester::asking::solicit(state, time, room);
+impl<'a, P: Print> BoxEnd<'a, P> {
+    // Pool 2001:db8:0:aa00::/56, S 56, D 60, preferred 601, valid 900, exclusion on.
+    pub fn starts(&mut self, duid: &[u8], time: u64) -> io::Result<()> {
+        let came = outcome(delegator::opening::start(
+            &mut self.table,
+            0x2001_0db8_0000_aa00,
+            0,
+            56,
+            56,
+            60,
+            601,
+            900,
+            true,
+            duid,
+            time,
+        ));
+        let end = ended(came, duid);
+        println!(self.rt; "{time} box starts, DUID of {} bytes: {end}", duid.len())
     }
-    if kind == 3 {
-        return requester::asking::request(state, time, room);
+
+    // A message is heard, and the answer returned.
+    pub fn hears<'r>(
+        &mut self,
+        time: u64,
+        msg: &[u8],
+        how: &str,
+        room: &'r mut [u8; 512],
+    ) -> io::Result<&'r [u8]> {
+        let came = outcome(delegator::handling::handle(&mut self.table, time, msg, room));
+        let answer = written(room, came);
+        let (heard, end) = (Heard { msg, how }, ended(came, answer));
+        println!(self.rt; "{time} box hears: {heard}: {end}")?;
+        Ok(answer)
     }
-    if kind == 5 {
-        return requester::asking::renew(state, time, room);
+
+    pub fn counts(&self, time: u64) -> io::Result<()> {
+        match outcome(delegator::showing::live(&self.table, time)) {
+            Ok(n) => println!(self.rt; "{time} box has live: {n}"),
+            Err(no) => println!(self.rt; "{time} box has live: refused {no}"),
+        }
     }
-    if kind == 6 {
-        return requester::asking::rebind(state, time, room);
+
+    // The first record, up to a DUID's first ten bytes.
+    pub fn shows(&self, time: u64) -> io::Result<()> {
+        let mut room = [0u8; 153];
+        let came = outcome(delegator::showing::record_at(&self.table, 0, &mut room));
+        let end = End {
+            outcome: came,
+            text: part(&room, 33),
+            none: "none",
+        };
+        println!(self.rt; "{time} box's first record: {end}")
     }
-    requester::asking::release(state, time, room)
 }
 
-pub fn router_sends(
-    rt: &impl Print,
-    state: &mut [u8; 384],
-    kind: u8,
-    time: u64,
-    room: &mut [u8; 512],
-) -> io::Result<u64> {
-    let word = send(state, kind, time, room);
-    say_at(rt, time, b" router sends a ")?;
-    say_type(rt, kind)?;
-    say_end(rt, word, text(room, word), b"done")?;
-    Ok(word)
+// The router, which tells what it does.
+#[derive(Drop)]
+pub struct RouterEnd<'a, P> {
+    pub rt: &'a P,
+    pub state: [u8; 384],
 }
 
-pub fn router_resends(
-    rt: &impl Print,
-    state: &mut [u8; 384],
-    time: u64,
-    room: &mut [u8; 512],
-) -> io::Result<u64> {
-    let word = requester::asking::resend(state, time, room);
-    say_at(rt, time, b" router sends it again")?;
-    say_end(rt, word, text(room, word), b"done")?;
-    Ok(word)
+impl<'a, P: Print> RouterEnd<'a, P> {
+    pub fn starts(&mut self, duid: &[u8], iaid: u32, wanted: u64, time: u64) -> io::Result<()> {
+        let word = requester::opening::start(&mut self.state, duid, iaid, wanted, time);
+        let (n, end) = (duid.len(), ended(outcome(word), duid));
+        println!(self.rt; "{time} router starts, DUID of {n} bytes, wanted length {wanted}: {end}")
+    }
+
+    fn send(&mut self, kind: Kind, time: u64, room: &mut [u8; 512]) -> Result<usize, u64> {
+        let state = &mut self.state;
+        outcome(match kind {
+            Kind::Solicit => requester::asking::solicit(state, time, room),
+            Kind::Request => requester::asking::request(state, time, room),
+            Kind::Renew => requester::asking::renew(state, time, room),
+            Kind::Rebind => requester::asking::rebind(state, time, room),
+            Kind::Release => requester::asking::release(state, time, room),
+        })
+    }
+
+    // A message is sent, and returned.
+    pub fn sends<'r>(
+        &mut self,
+        kind: Kind,
+        time: u64,
+        room: &'r mut [u8; 512],
+    ) -> io::Result<&'r [u8]> {
+        let came = self.send(kind, time, room);
+        let sent = written(room, came);
+        let (name, end) = (Type::from(kind), ended(came, sent));
+        println!(self.rt; "{time} router sends a {name}: {end}")?;
+        Ok(sent)
+    }
+
+    pub fn resends<'r>(&mut self, time: u64, room: &'r mut [u8; 512]) -> io::Result<&'r [u8]> {
+        let came = outcome(requester::asking::resend(&mut self.state, time, room));
+        let sent = written(room, came);
+        println!(self.rt; "{time} router sends it again: {}", ended(came, sent))?;
+        Ok(sent)
+    }
+
+    pub fn abandons(&mut self, time: u64) -> io::Result<()> {
+        let came = outcome(requester::asking::abandon(&mut self.state, time));
+        println!(self.rt; "{time} router abandons it: {}", ended(came, b"-"))
+    }
+
+    pub fn hears(&mut self, time: u64, msg: &[u8], how: &str) -> io::Result<()> {
+        let came = outcome(requester::hearing::receive(&mut self.state, time, msg));
+        let (heard, end) = (Heard { msg, how }, ended(came, msg));
+        println!(self.rt; "{time} router hears: {heard}: {end}")
+    }
+
+    pub fn holds(&self, time: u64) -> io::Result<()> {
+        let mut room = [0u8; 42];
+        let came = outcome(requester::showing::held(&self.state, time, &mut room));
+        let end = End {
+            outcome: came,
+            text: &room,
+            none: "nothing",
+        };
+        println!(self.rt; "{time} router holds: {end}")
+    }
+
+    // A whole exchange: sent at one second, answered and heard at another.
+    pub fn exchanges(
+        &mut self,
+        with: &mut BoxEnd<'a, P>,
+        kind: Kind,
+        sent: u64,
+        heard: u64,
+    ) -> io::Result<()> {
+        let mut room = [0u8; 512];
+        let mut answer = [0u8; 512];
+        let msg = self.sends(kind, sent, &mut room)?;
+        let back = with.hears(heard, msg, "", &mut answer)?;
+        self.hears(heard, back, "")?;
+        self.holds(heard)
+    }
 }
 
-pub fn router_abandons(rt: &impl Print, state: &mut [u8; 384], time: u64) -> io::Result<()> {
-    let word = requester::asking::abandon(state, time);
-    say_at(rt, time, b" router abandons it")?;
-    say_end(rt, word, b"-", b"done")
+// A step that has no text is done.
+fn ended(outcome: Result<usize, u64>, text: &[u8]) -> End {
+    End {
+        outcome,
+        text,
+        none: "done",
+    }
 }
 
-pub fn router_hears(
-    rt: &impl Print,
-    state: &mut [u8; 384],
-    time: u64,
-    msg: &[u8],
-    how: &[u8],
-) -> io::Result<()> {
-    let word = requester::hearing::receive(state, time, msg);
-    say_at(rt, time, b" router hears: ")?;
-    say_message(rt, msg, how)?;
-    say_end(rt, word, msg, b"done")
-}
-
-pub fn router_holds(rt: &impl Print, state: &[u8; 384], time: u64) -> io::Result<()> {
-    let mut room = [0u8; 42];
-    let word = requester::showing::held(state, time, &mut room);
-    say_at(rt, time, b" router holds")?;
-    say_end(rt, word, &room, b"nothing")
-}
-
-// A whole exchange: sent at one second, answered and heard at another.
-pub fn exchange(
-    rt: &impl Print,
-    state: &mut [u8; 384],
-    table: &mut [u8; 39344],
-    kind: u8,
-    sent: u64,
-    heard: u64,
-) -> io::Result<()> {
-    let mut room = [0u8; 512];
-    let mut answer = [0u8; 512];
-    let word = router_sends(rt, state, kind, sent, &mut room)?;
-    let back = box_hears(rt, table, heard, text(&room, word), b"", &mut answer)?;
-    router_hears(rt, state, heard, text(&answer, back), b"")?;
-    router_holds(rt, state, heard)
+// What an operation wrote at the front of the room; none if it was refused.
+fn written(room: &[u8; 512], outcome: Result<usize, u64>) -> &[u8] {
+    part(room, outcome.unwrap_or(0))
 }

@@ -1,50 +1,93 @@
-// The lines that are printed.
-use show::{say, say_hex, say_number};
-use std::io;
-use std::io::Print;
+// What the lines are made of.
+use rules::Kind;
+use show::Hex;
+use std::fmt;
 
-// A line begins: the second, and who does what.
-pub fn say_at(rt: &impl Print, time: u64, what: &[u8]) -> io::Result<()> {
-    say_number(rt, time as usize)?;
-    say(rt, what)
+// The type of a message, by its first byte.
+#[derive(Clone, Copy)]
+pub enum Type {
+    Solicit,
+    Advertise,
+    Request,
+    Renew,
+    Rebind,
+    Reply,
+    Release,
+    Other,
 }
 
-// The name of a message's type.
-pub fn say_type(rt: &impl Print, kind: u8) -> io::Result<()> {
-    match kind {
-        1 => say(rt, b"Solicit")?,
-        2 => say(rt, b"Advertise")?,
-        3 => say(rt, b"Request")?,
-        5 => say(rt, b"Renew")?,
-        6 => say(rt, b"Rebind")?,
-        7 => say(rt, b"Reply")?,
-        8 => say(rt, b"Release")?,
-        _ => say(rt, b"no message")?,
+impl From<u8> for Type {
+    fn from(kind: u8) -> Type {
+        match kind {
+            1 => Type::Solicit,
+            2 => Type::Advertise,
+            3 => Type::Request,
+            5 => Type::Renew,
+            6 => Type::Rebind,
+            7 => Type::Reply,
+            8 => Type::Release,
+            _ => Type::Other,
+        }
     }
-    Ok(())
+}
+
+impl From<Kind> for Type {
+    fn from(kind: Kind) -> Type {
+        match kind {
+            Kind::Solicit => Type::Solicit,
+            Kind::Request => Type::Request,
+            Kind::Renew => Type::Renew,
+            Kind::Rebind => Type::Rebind,
+            Kind::Release => Type::Release,
+        }
+    }
+}
+
+impl fmt::Display for Type {
+    fn fmt<W: fmt::Write>(&self, f: &mut fmt::Formatter<W>) -> fmt::Result {
+        f.write_str(match self {
+            Type::Solicit => "Solicit",
+            Type::Advertise => "Advertise",
+            Type::Request => "Request",
+            Type::Renew => "Renew",
+            Type::Rebind => "Rebind",
+            Type::Reply => "Reply",
+            Type::Release => "Release",
+            Type::Other => "no message",
+        })
+    }
 }
 
 // A message that is heard: its type, what is odd about it, and its length.
-pub fn say_message(rt: &impl Print, msg: &[u8], how: &[u8]) -> io::Result<()> {
-    if 0 < msg.len() {
-        say_type(rt, msg[0])?;
-    }
-    say(rt, how)?;
-    say(rt, b", ")?;
-    say_number(rt, msg.len())?;
-    say(rt, b" bytes")
+#[derive(Clone, Copy)]
+pub struct Heard<'a> {
+    pub msg: &'a [u8],
+    pub how: &'a str,
 }
 
-// How a step ended: the number that refused it, its text, or, without one, the word for that. The line ends here.
-pub fn say_end(rt: &impl Print, word: u64, text: &[u8], none: &[u8]) -> io::Result<()> {
-    say(rt, b": ")?;
-    if 65536 <= word {
-        say(rt, b"refused ")?;
-        say_number(rt, (word / 65536) as usize)?;
-    } else if word == 0 {
-        say(rt, none)?;
-    } else {
-        say_hex(rt, text)?;
+impl fmt::Display for Heard<'_> {
+    fn fmt<W: fmt::Write>(&self, f: &mut fmt::Formatter<W>) -> fmt::Result {
+        if let Some(kind) = self.msg.first() {
+            write!(f, "{}", Type::from(*kind))?;
+        }
+        write!(f, "{}, {} bytes", self.how, self.msg.len())
     }
-    say(rt, b"\n")
+}
+
+// How a step ended: the number that refused it, its text, or, where there is none, the word for that.
+#[derive(Clone, Copy)]
+pub struct End<'a> {
+    pub outcome: Result<usize, u64>,
+    pub text: &'a [u8],
+    pub none: &'a str,
+}
+
+impl fmt::Display for End<'_> {
+    fn fmt<W: fmt::Write>(&self, f: &mut fmt::Formatter<W>) -> fmt::Result {
+        match self.outcome {
+            Err(no) => write!(f, "refused {no}"),
+            Ok(0) => write!(f, "{}", self.none),
+            Ok(_) => write!(f, "{}", Hex(self.text)),
+        }
+    }
 }

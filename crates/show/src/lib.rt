@@ -1,28 +1,33 @@
-// What a program prints: text, numbers in decimal, and bytes in hexadecimal.
+// What the programs print: bytes in hexadecimal, and an operation's word taken apart.
 #![tactic(auto)]
 
-ghost use Rattle.std.specs.Prelude.{◌<◌};
+ghost use Rattle.std.specs.Prelude.{◌≡◌, ◌/◌, ◌<◌, ◌≤◌, MatchResult, Some};
+ghost use Rattle.show.specs.Text.{hex_text};
 
-use std::io;
-use std::io::Print;
+use std::fmt;
 
-pub fn say(rt: &impl Print, text: &[u8]) -> io::Result<()> {
-    rt.write_all(text)
-}
+// Bytes, each as two hexadecimal digits.
+#[derive(Clone, Copy)]
+pub struct Hex<'a>(pub &'a [u8]);
 
-pub fn say_number(rt: &impl Print, n: usize) -> io::Result<()> {
-    rt.print(n)
-}
+impl fmt::Display for Hex<'_> {
+    ghost output = { λ h. Some (hex_text h.0.now) };
 
-fn digit(d: u8) -> u8
-    requires { d < 16 }
-{
-    if d < 10 { b'0' + d } else { b'a' + (d - 10) }
-}
-
-pub fn say_hex(rt: &impl Print, b: &[u8]) -> io::Result<()> {
-    for x in b {
-        rt.write_all(&[digit(*x / 16), digit(*x % 16)])?;
+    fn fmt<W: fmt::Write>(&self, f: &mut fmt::Formatter<W>) -> fmt::Result {
+        for b in self.0 {
+            write!(f, "{b:02x}")?;
+        }
+        Ok(())
     }
-    Ok(())
+}
+
+// The word that an operation answers, taken apart: the length of what it wrote, or the number that refused it.
+pub fn outcome(word: u64) -> Result<usize, u64>
+    ensures { MatchResult result (λ n. (n ≡ word) × (n < 65536)) (λ no. (no ≡ word / 65536) × (65536 ≤ word)) }
+{
+    if word < 65536 {
+        Ok(word as usize)
+    } else {
+        Err(word / 65536)
+    }
 }

@@ -2,149 +2,95 @@
 #![tactic(auto)]
 
 use lone::{IdRead, MessageRead};
-use show::{say, say_hex, say_number};
+use show::{Hex, outcome};
 use std::io;
 use std::io::Print;
 
-const HOME: u64 = 0x2001_0db8_dead_bee0;
+const HOME: u128 = 0x2001_0db8_dead_bee0_0000_0000_0000_0000;
 
-const LAST: u64 = 0x2001_0db8_dead_beef;
+const LAST: u128 = 0x2001_0db8_dead_beef_0000_0000_0000_0000;
 
-const ELSEWHERE: u64 = 0x2001_0db8_0007_0000;
+const ELSEWHERE: u128 = 0x2001_0db8_0007_0000_0000_0000_0000_0000;
 
-const THERE: u64 = 0x2001_0db8_0007_1234;
+const THERE: u128 = 0x2001_0db8_0007_1234_0000_0000_0000_0000;
 
-// The bits of a prefix, from its two halves.
-fn bits(upper: u64, lower: u64) -> [u8; 16] {
-    let mut b = [0u8; 16];
-    cells::put(&mut b, 0, 8, upper);
-    cells::put(&mut b, 8, 8, lower);
-    b
-}
+// LAST, and a bit after its /64.
+const ODD: u128 = 0x2001_0db8_dead_beef_8000_0000_0000_0000;
 
 // What a PD Exclude inside p of length a reads as: the excluded prefix, or the number that refuses it.
-fn exclude(rt: &impl Print, name: &[u8], p: u64, a: usize, text: &[u8]) -> io::Result<()> {
-    let r = lone::read_exclude(bits(p, 0), a, text);
-    let no = r.refusal;
-    let out = r.bits;
-    say(rt, name)?;
-    say(rt, b" ")?;
-    say_hex(rt, text)?;
-    if no == 0 {
-        say(rt, b" reads as ")?;
-        say_hex(rt, &out)?;
-        say(rt, b"/")?;
-        say_number(rt, r.length)?;
+fn exclude(rt: &impl Print, name: &str, p: u128, a: usize, text: &[u8]) -> io::Result<()> {
+    let read = lone::read_exclude(p.to_be_bytes(), a, text);
+    print!(rt; "{name} {} ", Hex(text))?;
+    if read.refusal == 0 {
+        println!(rt; "reads as {}/{}", Hex(&read.bits), read.length)
     } else {
-        say(rt, b" is refused: ")?;
-        say_number(rt, no as usize)?;
+        println!(rt; "is refused: {}", read.refusal)
     }
-    say(rt, b"\n")
 }
 
 // What the PD Exclude for e of length b inside p of length a is written as, into eight bytes of ee: the room, or the number
 // that refuses it.
-fn write(rt: &impl Print, name: &[u8], p: u64, a: usize, e: [u8; 16], b: usize) -> io::Result<()> {
+fn write(rt: &impl Print, name: &str, p: u128, a: usize, e: u128, b: usize) -> io::Result<()> {
     let mut room = [0xeeu8; 8];
-    let word = print::lone::write_exclude(&mut room, bits(p, 0), a, e, b);
-    say(rt, name)?;
-    if word < 65536 {
-        say(rt, b" writes ")?;
-    } else {
-        say(rt, b" is not written: ")?;
-        rt.print(word / 65536)?;
-        say(rt, b", room ")?;
+    let word = print::lone::write_exclude(&mut room, p.to_be_bytes(), a, e.to_be_bytes(), b);
+    match outcome(word) {
+        Ok(_) => println!(rt; "{name} writes {}", Hex(&room)),
+        Err(no) => println!(rt; "{name} is not written: {no}, room {}", Hex(&room)),
     }
-    say_hex(rt, &room)?;
-    say(rt, b"\n")
 }
 
 // How a message reads.
 fn message(rt: &impl Print, bytes: &[u8]) -> io::Result<()> {
-    say(rt, b"a message of ")?;
-    say_number(rt, bytes.len())?;
+    print!(rt; "a message of {} bytes is ", bytes.len())?;
     match lone::read_message(bytes) {
-        MessageRead::Refused(no) => {
-            say(rt, b" bytes is refused: ")?;
-            say_number(rt, no as usize)?;
-        }
-        MessageRead::Message {
-            kind: _,
-            number: _,
-            clients,
-            client: _,
-            servers: _,
-            server: _,
-            pds: _,
-            pd: _,
-        } => {
-            say(rt, b" bytes is read, with Client IDs: ")?;
-            say_number(rt, clients)?;
-        }
+        MessageRead::Refused(no) => println!(rt; "refused: {no}"),
+        MessageRead::Message { clients, .. } => println!(rt; "read, with Client IDs: {clients}"),
     }
-    say(rt, b"\n")
 }
 
 // How a Client ID reads, alone.
 fn client(rt: &impl Print, bytes: &[u8]) -> io::Result<()> {
-    say(rt, b"a Client ID option of ")?;
-    say_number(rt, bytes.len())?;
+    print!(rt; "a Client ID option of {} bytes ", bytes.len())?;
     match lone::read_id(bytes, 1) {
-        IdRead::Refused(no) => {
-            say(rt, b" bytes is refused: ")?;
-            say_number(rt, no as usize)?;
-        }
-        IdRead::Duid { start, len } => {
-            say(rt, b" bytes stands at ")?;
-            say_number(rt, start)?;
-            say(rt, b", length ")?;
-            say_number(rt, len)?;
-        }
+        IdRead::Refused(no) => println!(rt; "is refused: {no}"),
+        IdRead::Duid { start, len } => println!(rt; "stands at {start}, length {len}"),
     }
-    say(rt, b"\n")
 }
 
 fn examples(rt: &impl Print) -> io::Result<()> {
-    exclude(rt, b"E1", HOME, 59, b"\x00\x43\x00\x02\x40\x78")?;
-    exclude(rt, b"E2", HOME, 59, b"\x00\x43\x00\x02\x41\x7c")?;
-    exclude(rt, b"E3", HOME, 59, b"\x00\x43\x00\x02\x40\x79")?;
-    exclude(rt, b"E4", HOME, 59, b"\x00\x43\x00\x02\x3b\x78")?;
-    exclude(rt, b"E5", HOME, 59, b"\x00\x43\x00\x03\x40\x78\x00")?;
-    exclude(rt, b"E6", ELSEWHERE, 48, b"\x00\x43\x00\x03\x40\x12\x34")
+    exclude(rt, "E1", HOME, 59, b"\x00\x43\x00\x02\x40\x78")?;
+    exclude(rt, "E2", HOME, 59, b"\x00\x43\x00\x02\x41\x7c")?;
+    exclude(rt, "E3", HOME, 59, b"\x00\x43\x00\x02\x40\x79")?;
+    exclude(rt, "E4", HOME, 59, b"\x00\x43\x00\x02\x3b\x78")?;
+    exclude(rt, "E5", HOME, 59, b"\x00\x43\x00\x03\x40\x78\x00")?;
+    exclude(rt, "E6", ELSEWHERE, 48, b"\x00\x43\x00\x03\x40\x12\x34")
 }
 
 fn writings(rt: &impl Print) -> io::Result<()> {
-    write(rt, b"E1", HOME, 59, bits(LAST, 0), 64)?;
-    write(rt, b"E2", HOME, 59, bits(LAST, 0x8000_0000_0000_0000), 65)?;
-    write(rt, b"E4", HOME, 59, bits(HOME, 0), 59)?;
-    write(rt, b"E6", ELSEWHERE, 48, bits(THERE, 0), 64)?;
-    write(rt, b"another's", ELSEWHERE, 48, bits(LAST, 0), 64)?;
-    write(rt, b"nine bytes", ELSEWHERE, 48, bits(THERE, 0), 81)
+    write(rt, "E1", HOME, 59, LAST, 64)?;
+    write(rt, "E2", HOME, 59, ODD, 65)?;
+    write(rt, "E4", HOME, 59, HOME, 59)?;
+    write(rt, "E6", ELSEWHERE, 48, THERE, 64)?;
+    write(rt, "another's", ELSEWHERE, 48, LAST, 64)?;
+    write(rt, "nine bytes", ELSEWHERE, 48, THERE, 81)
 }
 
 // Zeros read as type 0 and empty options of code 0, which the reader skips.
 fn messages(rt: &impl Print) -> io::Result<()> {
-    message(rt, &[0u8; 3])?;
-    message(rt, &[0u8; 4])?;
-    message(rt, &[0u8; 1232])?;
-    message(rt, &[0u8; 1233])
+    for n in [3, 4, 1232, 1233] {
+        message(rt, &[0u8; 1233][..n])?;
+    }
+    Ok(())
 }
 
+// DUIDs of n sevens.
 fn clients(rt: &impl Print) -> io::Result<()> {
-    client(rt, b"\x00\x01\x00\x02\x07\x07")?;
-    client(rt, b"\x00\x01\x00\x03\x07\x07\x07")?;
-    let mut longest = [7u8; 134];
-    longest[0] = 0;
-    longest[1] = 1;
-    longest[2] = 0;
-    longest[3] = 130;
-    client(rt, &longest)?;
-    let mut beyond = [7u8; 135];
-    beyond[0] = 0;
-    beyond[1] = 1;
-    beyond[2] = 0;
-    beyond[3] = 131;
-    client(rt, &beyond)
+    let mut option = [7u8; 135];
+    for n in [2u8, 3, 130, 131] {
+        option[..4].copy_from_slice(&[0, 1, 0, n]);
+        client(rt, &option[..4 + usize::from(n)])?;
+    }
+    Ok(())
 }
 
 fn main(rt: HostRuntime) -> io::Result<()> {
