@@ -9,7 +9,7 @@ ghost use Rattle.rules.specs.TableBytes.{record_at};
 ghost use Rattle.rules.specs.Choose.{hits};
 ghost use Rattle.laws.specs.Loops.{first_place};
 ghost use Rattle.prefix.specs.Upper.{upper};
-ghost use Rattle.search.specs.Binding.{binding_of, place_of};
+ghost use Rattle.search.specs.Binding.{binding_of};
 
 // A record of the table by value: the first `len` bytes are its DUID.
 #[derive(Clone, Copy)]
@@ -21,13 +21,6 @@ pub struct Binding {
     pub length: u64,
     pub excluded: bool,
     pub end: clock::Moment,
-}
-
-// Where something stands among the records.
-#[derive(Clone, Copy)]
-pub enum Place {
-    At(usize),
-    Nothing,
 }
 
 // Record i.
@@ -64,18 +57,16 @@ pub fn hits(t: &[u8], i: usize, p: u64, a: u64) -> bool
 }
 
 // The first of n records that overlaps p of length a.
-pub fn first_hit(t: &[u8], n: usize, p: u64, a: u64) -> Place
+pub fn first_hit(t: &[u8], n: usize, p: u64, a: u64) -> Option<usize>
     requires { (n ≤ 256) × (39344 ≤ length t.now) }
-    ensures { place_of result ≡ first_place (hits (upper p a)) (from (record_at t.now) 0 n) 0 }
+    ensures { result ≡ first_place (hits (upper p a)) (from (record_at t.now) 0 n) 0 }
 {
-    let mut i: usize = 0;
-    while i < n {
+    for i in 0..n {
         if hits(t, i, p, a) {
-            return Place::At(i);
+            return Some(i);
         }
-        i += 1;
     }
-    Place::Nothing
+    None
 }
 
 // Whether record i is a binding of this identity.
@@ -90,18 +81,16 @@ pub fn is_of(t: &[u8], i: usize, duid: &[u8], iaid: u32) -> bool
 }
 
 // The first of n records that is a binding of this identity.
-pub fn find(t: &[u8], n: usize, duid: &[u8], iaid: u32) -> Place
+pub fn find(t: &[u8], n: usize, duid: &[u8], iaid: u32) -> Option<usize>
     requires { (n ≤ 256) × (39344 ≤ length t.now) }
-    ensures { place_of result ≡ first_place (is_binding (identity duid.now iaid)) (from (record_at t.now) 0 n) 0 }
+    ensures { result ≡ first_place (is_binding (identity duid.now iaid)) (from (record_at t.now) 0 n) 0 }
 {
-    let mut i: usize = 0;
-    while i < n {
+    for i in 0..n {
         if is_of(t, i, duid, iaid) {
-            return Place::At(i);
+            return Some(i);
         }
-        i += 1;
     }
-    Place::Nothing
+    None
 }
 
 // How many of n records are live at this time.
@@ -110,10 +99,8 @@ pub fn count_live(t: &[u8], n: usize, time: u64) -> usize
     ensures { result ≡ length (keep (live time) (from (record_at t.now) 0 n)) }
 {
     let mut k: usize = 0;
-    let mut i: usize = 0;
-    while i < n {
+    for i in 0..n {
         k += fields::live_at(t, i, time) as usize;
-        i += 1;
     }
     k
 }

@@ -6,7 +6,4 @@ use Rattle.search.proofs.count_live.Given as goal
 
 -- `count_live`: those counted, with those from i on, are all.
 abbrev pub invariant-loop-i : goal.invariant-loop-i
-invariant-loop-i l = (l.i ≤ l.n) × (l.k ≤ l.i) × (l.k + length (keep (live l.time) (from (record_at l.t) l.i (l.n - l.i))) ≡ length (keep (live l.time) (from (record_at l.t) 0 l.n)))
-
-abbrev pub decreases-loop-i : goal.decreases-loop-i
-decreases-loop-i l = l.n - l.i
+invariant-loop-i l = (l.k ≤ l.i) × (l.k + length (keep (live l.time) (from (record_at l.t) l.i (l.n - l.i))) ≡ length (keep (live l.time) (from (record_at l.t) 0 l.n)))
