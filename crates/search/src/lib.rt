@@ -61,12 +61,7 @@ pub fn first_hit(t: &[u8], n: usize, p: u64, a: u64) -> Option<usize>
     requires { (n ≤ 256) × (39344 ≤ length t.now) }
     ensures { result ≡ first_place (hits (upper p a)) (from (record_at t.now) 0 n) 0 }
 {
-    for i in 0..n {
-        if hits(t, i, p, a) {
-            return Some(i);
-        }
-    }
-    None
+    (0..n).find(|i| hits(t, *i, p, a))
 }
 
 // Whether record i is a binding of this identity.
@@ -85,12 +80,7 @@ pub fn find(t: &[u8], n: usize, duid: &[u8], iaid: u32) -> Option<usize>
     requires { (n ≤ 256) × (39344 ≤ length t.now) }
     ensures { result ≡ first_place (is_binding (identity duid.now iaid)) (from (record_at t.now) 0 n) 0 }
 {
-    for i in 0..n {
-        if is_of(t, i, duid, iaid) {
-            return Some(i);
-        }
-    }
-    None
+    (0..n).find(|i| is_of(t, *i, duid, iaid))
 }
 
 // How many of n records are live at this time.
@@ -98,9 +88,5 @@ pub fn count_live(t: &[u8], n: usize, time: u64) -> usize
     requires { (n ≤ 256) × (39344 ≤ length t.now) }
     ensures { result ≡ length (keep (live time) (from (record_at t.now) 0 n)) }
 {
-    let mut k: usize = 0;
-    for i in 0..n {
-        k += fields::live_at(t, i, time) as usize;
-    }
-    k
+    (0..n).filter(|i| fields::live_at(t, *i, time)).count()
 }

@@ -1,16 +1,15 @@
-use Rattle.std.proofs.Common.{sym, ◌∙◌}
-use Rattle.std.proofs.Math.Nat.{sub-zero}
-use Rattle.laws.specs.Loops.{place-turn, place_end}
+-- `first_hit`: the first place that passes is that of the first record that does.
+use Rattle.std.proofs.Common.{◌≡◌, true, false, rules, tests}
+use Rattle.std.proofs.lemmas.Iterator.{first_from_Range}
+use Rattle.rules.specs.TableBytes.{record_at}
+use Rattle.rules.specs.Choose.{hits}
+use Rattle.prefix.specs.Upper.{upper}
+use Rattle.search.proofs.Laws.{first-found}
 use Rattle.search.proofs.first_hit.Goals as goal
 
-pub loop-i-init : goal.loop-i-init
-loop-i-init c = rw sub-zero
-
-pub returns-then-hits : goal.returns-then-hits
-returns-then-hits c = sym (c.loop-i.invariant ∙ place-turn _ _ _ _ c.loop-i-test.true (sym c.hits.ensures ∙ c.if-hits.true))
-
-pub loop-i-preserved : goal.loop-i-preserved
-loop-i-preserved c = c.loop-i.invariant ∙ place-turn _ _ _ _ c.loop-i-test.true (sym c.hits.ensures ∙ c.if-hits.false)
-
 pub returns : goal.returns
-returns c = sym (c.loop-i.invariant ∙ place_end _ _ _ _ c.loop-i-test.false)
+returns c =
+    let f = hits (upper c.args.p c.args.a) in
+    let g = record_at c.args.t.now in
+    first-found g f _ _
+    (first_from_Range _ _ _ _ (λ i. f (g i) ≡ true) (λ i. f (g i) ≡ false) c.find.ensures.ran (λ x q k. search (rules, tests)) (λ x q k. search (rules, tests)))
