@@ -8,8 +8,10 @@ ghost use Rattle.rules.specs.Table.{live, is_binding};
 ghost use Rattle.rules.specs.TableBytes.{record_at};
 ghost use Rattle.rules.specs.Choose.{hits};
 ghost use Rattle.laws.specs.Loops.{first_place};
-ghost use Rattle.prefix.specs.Upper.{upper};
+ghost use Rattle.prefix.specs.Upper.{half_of};
 ghost use Rattle.search.specs.Binding.{binding_of};
+
+use prefix::half::Half;
 
 // A record of the table by value: the first `len` bytes are its DUID.
 #[derive(Clone, Copy)]
@@ -47,21 +49,20 @@ pub fn record_at(t: &[u8], i: usize) -> Binding
     }
 }
 
-// Whether record i overlaps p of length a: only its prefix is read.
-pub fn hits(t: &[u8], i: usize, p: u64, a: u64) -> bool
+// Whether record i overlaps p: only its prefix is read.
+pub fn hits(t: &[u8], i: usize, p: Half) -> bool
     requires { (i < 256) × (39344 ≤ length t.now) }
-    ensures { result ≡ hits (upper p a) (record_at t.now i) }
+    ensures { result ≡ hits (half_of p) (record_at t.now i) }
 {
-    let q = fields::area_at(t, i);
-    prefix::half::overlap(q.upper, q.length, p, a)
+    fields::area_at(t, i).overlaps(p)
 }
 
-// The first of n records that overlaps p of length a.
-pub fn first_hit(t: &[u8], n: usize, p: u64, a: u64) -> Option<usize>
+// The first of n records that overlaps p.
+pub fn first_hit(t: &[u8], n: usize, p: Half) -> Option<usize>
     requires { (n ≤ 256) × (39344 ≤ length t.now) }
-    ensures { result ≡ first_place (hits (upper p a)) (from (record_at t.now) 0 n) 0 }
+    ensures { result ≡ first_place (hits (half_of p)) (from (record_at t.now) 0 n) 0 }
 {
-    (0..n).find(|i| hits(t, *i, p, a))
+    (0..n).find(|i| hits(t, *i, p))
 }
 
 // Whether record i is a binding of this identity.

@@ -1,4 +1,4 @@
-use Rattle.std.proofs.Common.{refl, ◌∙◌, arith, get_or, add-zero}
+use Rattle.std.proofs.Common.{refl, ◌∙◌, get_or, add-zero}
 use borrow.Author.Rules.{rules}
 use lib.ListN.{length-set}
 use mir.Syntax.{w8}

@@ -1,4 +1,4 @@
-use Rattle.std.proofs.Common.{◌≡◌, ◌+◌, ◌-◌, ◌≤◌, length, drop}
+use Rattle.std.proofs.Common.{◌≡◌, ◌+◌, ◌≤◌, length, drop}
 use Rattle.rules.specs.Words.{splice, num}
 use Rattle.rules.specs.Prefix.{prefix, bytes_for}
 use Rattle.laws.specs.Exclude.{packed_bytes}

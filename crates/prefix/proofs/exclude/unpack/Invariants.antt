@@ -1,4 +1,4 @@
-use Rattle.std.proofs.Common.{◌≡◌, ◌-◌, ◌≤◌, length}
+use Rattle.std.proofs.Common.{◌≡◌, ◌-◌, length}
 use Rattle.rules.specs.Words.{splice, num, be}
 use Rattle.rules.specs.Prefix.{prefix, unpacked}
 use Rattle.prefix.proofs.exclude.unpack.Given as goal
