@@ -1,5 +1,5 @@
 -- The walk's turns and the choice's tests, over what code has.
-use Rattle.std.proofs.Common.{◌≡◌, refl, sym, ap, ◌∙◌, subst, Bool, true, false, List, ℕ, ◌+◌, ◌-◌, ◌*◌, ◌/◌, ◌%◌, ◌^◌, ◌≤◌, ◌<◌, leb, length, Option, None, Some, is_some, not, arith, pow_mono}
+use Rattle.std.proofs.Common.{◌≡◌, sym, ap, ◌∙◌, subst, Bool, true, false, List, ℕ, ◌+◌, ◌-◌, ◌*◌, ◌/◌, ◌%◌, ◌^◌, ◌≤◌, ◌<◌, leb, length, Option, None, Some, is_some, not, arith, pow_mono}
 use borrow.Author.Tests.{leb-true}
 use Rattle.rules.specs.Words.{first, from}
 use Rattle.rules.specs.Prefix.{Prefix, prefix, size, zero_after}

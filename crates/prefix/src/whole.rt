@@ -4,7 +4,7 @@ ghost use Rattle.rules.specs.Words.{num};
 ghost use Rattle.rules.specs.Prefix.{prefix, front, zero_after, inside};
 ghost use Rattle.prefix.specs.Upper.{upper};
 
-use super::half::{same_front, Half};
+use super::half::{Half, same_front};
 
 // The upper 64 bits, and the lower.
 pub fn high(q: [u8; 16]) -> u64
@@ -48,9 +48,18 @@ pub fn zero_after16(q: [u8; 16], a: usize) -> bool
 {
     let m = a as u64;
     if m < 64 {
-        return Half { upper: high(q), length: m }.is_aligned() & (low(q) == 0);
+        return Half {
+            upper: high(q),
+            length: m,
+        }
+        .is_aligned()
+            & (low(q) == 0);
     }
-    Half { upper: low(q), length: m - 64 }.is_aligned()
+    Half {
+        upper: low(q),
+        length: m - 64,
+    }
+    .is_aligned()
 }
 
 // q of length n lies in the prefix whose upper 64 bits are p.
