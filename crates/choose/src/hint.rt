@@ -1,66 +1,69 @@
 // A hint: the length that is wanted, and whether its prefix can be had as it is.
-ghost use Rattle.std.specs.Prelude.{◌≡◌, not, ◌&&◌, ◌+◌, ◌*◌, ◌≤◌, ◌<◌, ◌^◌, eqb, leb, length};
+ghost use Rattle.std.specs.Prelude.{◌≡◌, not, ◌&&◌, eqb, leb};
 ghost use Rattle.rules.specs.Words.{from};
-ghost use Rattle.rules.specs.Prefix.{prefix, zero_after, inside};
+ghost use Rattle.rules.specs.Prefix.{zero_after, inside};
 ghost use Rattle.rules.specs.TableBytes.{record_at};
 ghost use Rattle.rules.specs.Choose.{wanted_for, free, is_place};
-ghost use Rattle.prefix.specs.Upper.{upper};
-ghost use Rattle.choose.specs.Choice.{chooser};
+ghost use Rattle.prefix.specs.Upper.{half_of};
+ghost use Rattle.choose.specs.Choice.{settings_by, hint_of};
 
-// The length that a hint of length n wants.
-pub fn wanted(shortest: u64, standard: u64, n: u64) -> u64
-    ensures { result ≡ wanted_for (chooser 0 0 shortest standard) n }
-{
-    if n == 0 {
-        return standard;
-    }
-    if n < shortest {
-        return shortest;
-    }
-    if 60 < n {
-        return 60;
-    }
-    n
+use super::chooser::Chooser;
+use prefix::half::Half;
+
+// A hint by the halves of its bits, with its length.
+#[derive(Clone, Copy)]
+pub struct Hint {
+    pub high: u64,
+    pub low: u64,
+    pub length: u64,
 }
 
-// None of n records overlaps p of length a.
-fn is_free(t: &[u8], n: usize, p: u64, a: u64) -> bool
-    requires { (n ≤ 256) × (39344 ≤ length t.now) }
-    ensures { result ≡ free (from (record_at t.now) 0 n) (upper p a) }
-{
-    match search::first_hit(t, n, p, a) {
-        search::Place::Nothing => true,
-        search::Place::At(_) => false,
+impl Chooser<'_> {
+    // The length that a hint of length n wants.
+    pub fn wanted(self, n: u64) -> u64
+        ensures { result ≡ wanted_for (settings_by self.entry) n }
+    {
+        if n == 0 {
+            return self.standard;
+        }
+        if n < self.shortest {
+            return self.shortest;
+        }
+        if 60 < n {
+            return 60;
+        }
+        n
     }
-}
 
-// p of length a is not zero, of a good length, aligned, and in the pool.
-fn could_be(pool: u64, width: u64, shortest: u64, p: u64, a: u64) -> bool
-    ensures { result ≡ not (eqb p 0) && leb shortest a && leb a 60 && zero_after (upper p a) && inside (upper p a) (upper pool width) }
-{
-    (p != 0)
-        & (shortest <= a)
-        & (a <= 60)
-        & prefix::half::zero_after(p, a)
-        & prefix::half::inside(p, a, pool, width)
-}
-
-// The prefix of a hint can be had as it is.
-pub fn is_place(
-    t: &[u8],
-    n: usize,
-    pool: u64,
-    width: u64,
-    shortest: u64,
-    high: u64,
-    low: u64,
-    a: u64,
-) -> bool
-    requires { (n ≤ 256) × (39344 ≤ length t.now) }
-    ensures { result ≡ is_place (chooser pool width shortest 0) (from (record_at t.now) 0 n) (Some (prefix (high * 2 ^ 64 + low) a)) }
-{
-    if low != 0 {
-        return false;
+    // None of the records overlaps p.
+    fn is_free(self, p: Half) -> bool
+        ensures { result ≡ free (from (record_at self.entry.t.now) 0 self.entry.n) (half_of p) }
+    {
+        search::first_hit(self.t, self.n, p).is_none()
     }
-    could_be(pool, width, shortest, high, a) & is_free(t, n, high, a)
+
+    // p is not zero, of a good length, aligned, and in the pool.
+    fn could_be(self, p: Half) -> bool
+        ensures { result ≡ not (eqb p.upper 0) && leb self.entry.shortest p.length && leb p.length 60 && zero_after (half_of p) && inside (half_of p) (half_of self.entry.pool) }
+    {
+        (p.upper != 0)
+            & (self.shortest <= p.length)
+            & (p.length <= 60)
+            & p.is_aligned()
+            & p.inside(self.pool)
+    }
+
+    // The prefix of a hint can be had as it is.
+    pub fn is_place(self, h: Hint) -> bool
+        ensures { result ≡ is_place (settings_by self.entry) (from (record_at self.entry.t.now) 0 self.entry.n) (Some (hint_of h)) }
+    {
+        if h.low != 0 {
+            return false;
+        }
+        let p = Half {
+            upper: h.high,
+            length: h.length,
+        };
+        self.could_be(p) & self.is_free(p)
+    }
 }

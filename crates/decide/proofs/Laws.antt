@@ -8,45 +8,45 @@
 use mathlib.Core.Path.{◌≡◌, refl, sym, ap, ◌∙◌}
 use mathlib.Core.Bool.{Bool, true, false, cond, not, ◌&&◌}
 use mathlib.Core.List.{List, [], ◌∷◌}
-use Rattle.std.specs.Prelude.{Option, None, Some}
+use Rattle.std.specs.Prelude.{Option, None, Some, option_map, MatchOption, ◌⊎◌}
+use Rattle.std.proofs.Common.{⊎_elim}
+use Rattle.std.specs.Bool.{then_some}
 use Prim.Native.Nat.{ℕ, zero, suc, ◌/◌, ◌%◌, ◌^◌, ◌≤◌, ◌<◌}
 use native.Mathlib.Nat.{zero-add, div-add-mod'}
 use native.Mathlib.Omega.{arith}
-use lib.Dec.{ltb}
+use lib.Dec.{leb, ltb}
 use lib.ListN.{length, get_or, length-map}
 use lib.Seq.{length-take-le}
-use borrow.Author.Tests.{lt-ltb}
+use borrow.Author.Tests.{lt-ltb, le-leb}
 use Rattle.rules.specs.Words.{all, from, num}
-use Rattle.rules.specs.Prefix.{Prefix, inside, Lease}
+use Rattle.rules.specs.Prefix.{Prefix, zero_after, inside, Lease}
 use Rattle.rules.specs.Clock.{Moment, Lifetime, plus, extended}
 use Rattle.rules.specs.Identity.{Identity}
 use Rattle.rules.specs.Message.{Listed}
-use Rattle.rules.specs.Settings.{Settings, good_settings}
-use Rattle.rules.specs.Table.{Record, is_binding, live, current, good_record}
+use Rattle.rules.specs.Settings.{Settings}
+use Rattle.rules.specs.Table.{Record, area, is_binding, live, current, good_record}
 use Rattle.rules.specs.TableBytes.{table_size, record_at, settings_of, count_of, table_of, sound_bytes}
 use Rattle.rules.specs.Choose.{choose}
 use Rattle.rules.specs.Box.{binding, longer, extend, others, gone, is_freed, hint_of, offer, Served, leaves, Asked, serve_rebind, serve, is_silence}
 use Rattle.rules.specs.declared.Kind.{Kind}
 use Rattle.rules.specs.declared.Kind.TheVariants.{Solicit, Request, Renew, Rebind, Release}
-use Rattle.laws.specs.Loops.{first_place, at, all-at, first-place, place-passes}
+use Rattle.laws.specs.Loops.{first_place, at, all-at, all-sub, first-place, place-passes}
 use Rattle.laws.specs.Binding.{if_live, binding-current}
 use Rattle.laws.specs.One.{changed, changed-same}
-use Rattle.laws.specs.Sound.{good-facts, record-facts}
-use Rattle.laws.specs.Choose.{Lengths, choose-room, choose-chosen}
+use Rattle.laws.specs.Sound.{good-facts, record-facts, sound-aligned}
+use Rattle.laws.specs.Choose.{Aligned as Records_aligned, choose-room, choose-chosen}
+use Rattle.laws.specs.Choosing.{same-choose}
 use Rattle.laws.specs.Change.{ending, held, extended-is, removed-is}
-use Rattle.prefix.specs.Upper.{upper}
+use Rattle.prefix.specs.Upper.{upper, half_of}
 use Rattle.values.specs.Values.{lease_of as prefix_of, listed_of, first_listed}
 use Rattle.values.specs.declared.IaPrefix.{IaPrefix}
 use Rattle.sound.specs.Setup.{Agrees, setup_of}
 use Rattle.sound.specs.declared.Setup.{Setup}
-use Rattle.search.specs.Binding.{binding_of, place_of}
+use Rattle.search.specs.Binding.{binding_of}
 use Rattle.search.specs.declared.Binding.{Binding}
-use Rattle.search.specs.declared.Place.{Place}
-use Rattle.search.specs.declared.Place.TheVariants.{At, Nothing}
-use Rattle.choose.specs.Choice.{choice_of, hint_of as hinted, chooser, Walkable}
-use Rattle.choose.specs.Callers.{walkable, lengths, chosen}
-use Rattle.choose.specs.declared.walk.Choice.{Choice}
-use Rattle.choose.specs.declared.walk.Choice.TheVariants.{Chosen, Nothing as NoChoice}
+use Rattle.choose.specs.Choice.{hint_of as hinted}
+use Rattle.choose.specs.declared.hint.Hint.{Hint}
+use Rattle.prefix.specs.declared.half.Half.{Half}
 use Rattle.plan.specs.Plan.{lease_of, Aligned}
 use Rattle.plan.specs.declared.Delegation.{Delegation}
 use Rattle.plan.specs.declared.Plan.{Plan}
@@ -67,17 +67,17 @@ module _ (b : List ℕ) (h : sound_bytes b ≡ true) where
 
 -- ---------------------------------------------------------------- the identity's record, looked for
 
-module _ (b : List ℕ) (who : Identity) (n : ℕ) (en : n ≡ count_of b) (r : Place) (e : place_of r ≡ first_place (is_binding who) (from (record_at b) 0 n) 0) where
-  pub found : {k : ℕ} → r ≡ At k → first_place (is_binding who) (table_of b).records 0 ≡ Some k
+module _ (b : List ℕ) (who : Identity) (n : ℕ) (en : n ≡ count_of b) (r : Option ℕ) (e : r ≡ first_place (is_binding who) (from (record_at b) 0 n) 0) where
+  pub found : {k : ℕ} → r ≡ Some k → first_place (is_binding who) (table_of b).records 0 ≡ Some k
   unfolding table_of
-  found q = rw (← en) (sym e ∙ ap place_of q)
+  found q = rw (← en) (sym e ∙ q)
 
-  pub found-there : {k : ℕ} → r ≡ At k → k < count_of b
-  found-there {k} q = let p = place-passes (record_at b) (is_binding who) n 0 k (sym e ∙ ap place_of q) in omega (arith, p.1)
+  pub found-there : {k : ℕ} → r ≡ Some k → k < count_of b
+  found-there {k} q = let p = place-passes (record_at b) (is_binding who) n 0 k (sym e ∙ q) in omega (arith, p.1)
 
-  pub missing : r ≡ Nothing → binding who (table_of b).records ≡ None
+  pub missing : r ≡ None → binding who (table_of b).records ≡ None
   unfolding table_of
-  missing q = rw (← en) (first-place (record_at b) (is_binding who) n 0 ∙ ap (at (record_at b)) (sym e ∙ ap place_of q))
+  missing q = rw (← en) (first-place (record_at b) (is_binding who) n 0 ∙ ap (at (record_at b)) (sym e ∙ q))
 
 -- ---------------------------------------------------------------- the asker's record is number k
 
@@ -158,44 +158,67 @@ module _ (b : List ℕ) (h : sound_bytes b ≡ true) (k : ℕ) (there : k < coun
       unfolding serve
       bound-request {kind} e = bound-extended kind false (λ q l t. rw (e, t))
 
-      pub bound-renew : {kind : Kind} → kind ≡ Renew → Bound b now kind k xs (Extend k end (lent r) true)
+      bound-renew : {kind : Kind} → kind ≡ Renew → Bound b now kind k xs (Extend k end (lent r) true)
       unfolding serve
       bound-renew {kind} e = bound-extended kind true (λ q l t. rw (e, t, l))
 
-      pub bound-rebind : {kind : Kind} → kind ≡ Rebind → Bound b now kind k xs (Extend k end (lent r) true)
+      bound-rebind : {kind : Kind} → kind ≡ Rebind → Bound b now kind k xs (Extend k end (lent r) true)
       unfolding serve
       bound-rebind {kind} e = bound-extended kind true (λ q l t. rw (e, t, l))
+
+      pub bound-again : {kind : Kind} → (kind ≡ Renew) ⊎ (kind ≡ Rebind) → Bound b now kind k xs (Extend k end (lent r) true)
+      bound-again e = ⊎_elim bound-renew bound-rebind e
 
 -- ---------------------------------------------------------------- the choice
 
 -- the hint is the first listed prefix
 hint-is : (ps : List IaPrefix) (x : IaPrefix) (n : ℕ) {u l : ℕ} → 1 ≤ length ps → u ≡ num (get_or ps 0 x).bits / 2 ^ 64 → l ≡ num (get_or ps 0 x).bits % 2 ^ 64
-    → hinted (ltb 0 n) u l (get_or ps 0 x).length ≡ hint_of (first_listed n ps)
+    → option_map hinted (then_some (ltb 0 n) (record { high = u; low = l; length = (get_or ps 0 x).length })) ≡ hint_of (first_listed n ps)
 unfolding listed_of prefix_of
 hint-is [] x n h eu el = absurd (omega arith)
 hint-is (y ∷ ps) x zero h eu el = refl
 hint-is (y ∷ ps) x (suc n) h eu el = rw (eu, el, lt-ltb 0 (suc n) (omega arith), div-add-mod' (num y.bits) (2 ^ 64))
 
-module _ (b : List ℕ) (h : sound_bytes b ≡ true) (s : Setup) (g : Agrees s b) (n : ℕ) (en : n ≡ count_of b) where
+-- what a chooser takes of a sound table and its settings
+pub record Chooses (b : List ℕ) (n : ℕ) (pool : Prefix) (shortest standard : ℕ) : Type 0 where
+  pub few : n ≤ 256
+  pub room : table_size ≤ length b
+  pub aligned : Records_aligned (from (record_at b) 0 n)
+  pub short : all (λ r. leb (area r).length 60) (from (record_at b) 0 n) ≡ true
+  pub some : 1 ≤ pool.length
+  pub zeros : zero_after pool ≡ true
+  pub pool_shortest : pool.length ≤ shortest
+  pub shortest_standard : shortest ≤ standard
+  pub standard_60 : standard ≤ 60
+
+module _ (b : List ℕ) (h : sound_bytes b ≡ true) (s : Setup) (g : Agrees s b) where
   abbrev set : Settings
   set = setup_of s (settings_of b).own
 
-  good-set : good_settings set ≡ true
+  pub choice-asks : (n : ℕ) → n ≡ count_of b → Chooses b n (upper s.pool s.width) s.shortest s.standard
   unfolding table_of
-  good-set = rw g (held b h).sound.settings
+  choice-asks n en =
+      let good : all (good_record set) (from (record_at b) 0 n) ≡ true = rw (g, en) (held b h).sound.good in
+      let f = good-facts set (rw g (held b h).sound.settings) in
+      record {
+        few = omega (arith, few b h);
+        room = size b h;
+        aligned = sound-aligned set (from (record_at b) 0 n) good;
+        short = all-sub (good_record set) (λ q. leb (area q).length 60) (λ q t. le-leb _ _ (record-facts set q t).most) (from (record_at b) 0 n) good;
+        some = omega (arith, f.least-32);
+        zeros = f.lengths.aligned;
+        pool_shortest = f.lengths.pool-shortest;
+        shortest_standard = f.lengths.shortest-standard;
+        standard_60 = f.lengths.standard-60;
+      }
 
-  pub choice-asks : Walkable b n s.pool s.width × Lengths (chooser s.pool s.width s.shortest s.standard)
-  unfolding table_of
-  choice-asks = (
-    walkable set b n s.pool s.width refl good-set (rw (g, en) (held b h).sound.good) (omega (arith, few b h)) (size b h),
-    lengths set s.pool s.width refl (good-facts set good-set).lengths,
-  )
-
-  pub choice-is : {o : Option Prefix} (ps : List IaPrefix) (x : IaPrefix) (m : ℕ) {u l : ℕ} → 1 ≤ length ps → u ≡ num (get_or ps 0 x).bits / 2 ^ 64 → l ≡ num (get_or ps 0 x).bits % 2 ^ 64
-      → o ≡ choose (chooser s.pool s.width s.shortest s.standard) (from (record_at b) 0 n) (hinted (ltb 0 m) u l (get_or ps 0 x).length)
-      → o ≡ choose (settings_of b) (table_of b).records (hint_of (first_listed m ps))
-  unfolding table_of
-  choice-is ps x m one eu el e = e ∙ chosen set s.pool s.width refl (from (record_at b) 0 n) _ ∙ rw (g, en, hint-is ps x m one eu el)
+  -- by the settings that have these three alike
+  module _ (k : Settings) {n : ℕ} (en : n ≡ count_of b) (ep : k.pool ≡ set.pool) (es : k.shortest ≡ set.shortest) (ed : k.standard ≡ set.standard) where
+    pub choice-is : {o : Option Prefix} (ps : List IaPrefix) (x : IaPrefix) (m : ℕ) {u l : ℕ} → 1 ≤ length ps → u ≡ num (get_or ps 0 x).bits / 2 ^ 64 → l ≡ num (get_or ps 0 x).bits % 2 ^ 64
+        → {hint : Option Hint} → hint ≡ then_some (ltb 0 m) (record { high = u; low = l; length = (get_or ps 0 x).length }) → o ≡ choose k (from (record_at b) 0 n) (option_map hinted hint)
+        → o ≡ choose (settings_of b) (table_of b).records (hint_of (first_listed m ps))
+    unfolding table_of
+    choice-is ps x m one eu el eh e = e ∙ same-choose k set (from (record_at b) 0 n) ep es ed _ ∙ rw (g, en, eh, hint-is ps x m one eu el)
 
 -- ---------------------------------------------------------------- the asker has no record
 
@@ -203,13 +226,16 @@ module _ (b : List ℕ) (now : Moment) (asks : Bool) (xs : List Listed) where
   pub of-kind : {kind kind' : Kind} {p : Plan} → kind ≡ kind' → Unbound b now kind' asks xs p → Unbound b now kind asks xs p
   of-kind q u = rw q u
 
-  pub unbound-renew : Unbound b now Renew asks xs (Say 3)
+  unbound-renew : Unbound b now Renew asks xs (Say 3)
   unfolding serve
   unbound-renew = record { decided = λ who n. record { served = rw n; possible = tt; sendable = omega arith } }
 
-  pub unbound-release : Unbound b now Release asks xs (Say 3)
+  unbound-release : Unbound b now Release asks xs (Say 3)
   unfolding serve
   unbound-release = record { decided = λ who n. record { served = rw n; possible = tt; sendable = omega arith } }
+
+  pub unbound-neither : {kind : Kind} → (kind ≡ Renew) ⊎ (kind ≡ Release) → Unbound b now kind asks xs (Say 3)
+  unbound-neither e = ⊎_elim (λ q. of-kind q unbound-renew) (λ q. of-kind q unbound-release) e
 
   module _ {g : Bool} (eg : g ≡ gone (settings_of b) xs) where
     pub unbound-return : g ≡ true → Unbound b now Rebind asks xs Return
@@ -220,21 +246,21 @@ module _ (b : List ℕ) (now : Moment) (asks : Bool) (xs : List Listed) where
     unfolding serve
     unbound-silence t = record { decided = λ who n. record { served = rw (n, ← eg, t); possible = tt; sendable = tt } }
 
-  module _ (c : Choice) (e : choice_of c ≡ choose (settings_of b) (table_of b).records (hint_of xs)) where
-    pub offer-none : c ≡ NoChoice → Unbound b now Solicit asks xs (Say 6)
+  module _ (c : Option Half) (e : option_map half_of c ≡ choose (settings_of b) (table_of b).records (hint_of xs)) where
+    pub offer-none : c ≡ None → Unbound b now Solicit asks xs (Say 6)
     unfolding serve
     offer-none q = record { decided = λ who n. record { served = rw (n, ← e, q); possible = tt; sendable = omega arith } }
 
-    pub bind-none : c ≡ NoChoice → Unbound b now Request asks xs (Say 6)
+    pub bind-none : c ≡ None → Unbound b now Request asks xs (Say 6)
     unfolding serve
     bind-none q = record { decided = λ who n. record { served = rw (n, ← e, q); possible = tt; sendable = omega arith } }
 
-    module _ (h : sound_bytes b ≡ true) (p a : ℕ) (q : c ≡ Chosen p a) (x : Bool) (ex : x ≡ (settings_of b).exclusion) where
+    module _ (h : sound_bytes b ≡ true) (p : Half) (q : c ≡ Some p) (x : Bool) (ex : x ≡ (settings_of b).exclusion) where
       abbrev fresh : Delegation
-      fresh = record { prefix = p; length = a; excluded = x && asks }
+      fresh = record { prefix = p.upper; length = p.length; excluded = x && asks }
 
-      got : choose (settings_of b) (table_of b).records (hint_of xs) ≡ Some (upper p a)
-      got = sym e ∙ ap choice_of q
+      got : choose (settings_of b) (table_of b).records (hint_of xs) ≡ Some (half_of p)
+      got = sym e ∙ ap (option_map half_of) q
 
       able : Aligned fresh
       unfolding table_of
@@ -262,7 +288,7 @@ module _ (b : List ℕ) (h : sound_bytes b ≡ true) (now : Moment) (who : Ident
   live-is : binding who (current now (table_of b).records) ≡ if_live now (binding who (table_of b).records)
   live-is = binding-current who now (table_of b).records (held b h).sound.together
 
-  pub live-found : {k : ℕ} {l : Bool} → first_place (is_binding who) (table_of b).records 0 ≡ Some k → l ≡ live now (record_at b k)
+  live-found : {k : ℕ} {l : Bool} → first_place (is_binding who) (table_of b).records 0 ≡ Some k → l ≡ live now (record_at b k)
       → l ≡ is_there (binding who (current now (table_of b).records))
   live-found {k} {l} p e = sym (rw (live-is, theirs b k who p) (by (live now (record_at b k)) e))
     where
@@ -270,8 +296,14 @@ module _ (b : List ℕ) (h : sound_bytes b ≡ true) (now : Moment) (who : Ident
       by true q = sym q
       by false q = sym q
 
-  pub live-missing : binding who (table_of b).records ≡ None → false ≡ is_there (binding who (current now (table_of b).records))
+  live-missing : binding who (table_of b).records ≡ None → false ≡ is_there (binding who (current now (table_of b).records))
   live-missing n = rw (live-is, n)
+
+  -- what is said of the place that was found, or that there is none
+  pub live-there : {n : ℕ} → n ≡ count_of b → (r : Option ℕ) → r ≡ first_place (is_binding who) (from (record_at b) 0 n) 0 → {l : Bool} {Q : ℕ → Type 0}
+      → MatchOption r (l ≡ false) Q → ((k : ℕ) → Q k → l ≡ live now (record_at b k)) → l ≡ is_there (binding who (current now (table_of b).records))
+  live-there {n} en None e m q = m ∙ live-missing (missing b who n en None e refl)
+  live-there {n} en (Some k) e m q = live-found (found b who n en (Some k) e refl) (q k m)
 
 -- whether every listed prefix is gone, by the numbers of the pool
 pub gone-is : (b : List ℕ) (s : Setup) (ps : List IaPrefix) (n : ℕ) {g : Bool} → Agrees s b → n ≤ length ps

@@ -1,7 +1,7 @@
 // Deciding about one IA_PD over the records of a table. Nothing is written here.
 #![tactic(auto)]
 
-ghost use Rattle.std.specs.Prelude.{◌≡◌, true, false, ℕ, ◌≤◌, ◌<◌, ◌^◌, length};
+ghost use Rattle.std.specs.Prelude.{◌≡◌, true, false, ℕ, ◌≤◌, ◌<◌, ◌^◌, length, option_map};
 ghost use Rattle.rules.specs.Clock.{extended};
 ghost use Rattle.rules.specs.Identity.{identity};
 ghost use Rattle.rules.specs.Table.{current};
@@ -11,16 +11,17 @@ ghost use Rattle.rules.specs.Box.{binding, gone, hint_of, is_silence, serve};
 ghost use Rattle.rules.specs.declared.Kind.TheVariants.{Solicit, Request, Rebind};
 ghost use Rattle.values.specs.Values.{first_listed};
 ghost use Rattle.sound.specs.Setup.{Agrees};
-ghost use Rattle.choose.specs.Choice.{choice_of};
+ghost use Rattle.prefix.specs.Upper.{half_of};
 ghost use Rattle.plan.specs.Plan.{lease_of, asked_of, Aligned};
 ghost use Rattle.decide.specs.Decided.{Decided};
 ghost use Rattle.decide.specs.Found.{Bound, Unbound, frees, is_there};
 
-use choose::walk::Choice;
+use choose::chooser::Chooser;
+use choose::hint::Hint;
 use clock::{Lifetime, Moment};
 use plan::{Delegation, Plan};
+use prefix::half::Half;
 use rules::Kind;
-use search::Place;
 use sound::Setup;
 use values::{IaPrefix, Pd};
 
@@ -63,13 +64,7 @@ fn bound(t: &[u8], time: u64, kind: Kind, k: usize, q: Pd) -> Plan
             lease,
             back: false,
         },
-        Kind::Renew => Plan::Extend {
-            at: k,
-            end,
-            lease,
-            back: true,
-        },
-        Kind::Rebind => Plan::Extend {
+        Kind::Renew | Kind::Rebind => Plan::Extend {
             at: k,
             end,
             lease,
@@ -84,24 +79,29 @@ fn bound(t: &[u8], time: u64, kind: Kind, k: usize, q: Pd) -> Plan
 }
 
 // A prefix for a new binding, with the first of n listed ones as the hint.
-fn choice(t: &[u8], s: Setup, ps: [IaPrefix; 5], n: usize) -> Choice
+fn choice(t: &[u8], s: Setup, ps: [IaPrefix; 5], n: usize) -> Option<Half>
     requires { (sound_bytes t.now ≡ true) × Agrees s t.now }
-    ensures { choice_of result ≡ choose (settings_of t.now) (table_of t.now).records (hint_of (first_listed n ps)) }
+    ensures { option_map half_of result ≡ choose (settings_of t.now) (table_of t.now).records (hint_of (first_listed n ps)) }
 {
     let x = ps[0];
     let bits = x.bits;
-    choose::choose(
+    let hint = Hint {
+        high: prefix::whole::high(bits),
+        low: prefix::whole::low(bits),
+        length: x.length as u64,
+    };
+    let pool = Half {
+        upper: s.pool,
+        length: s.width,
+    };
+    let c = Chooser {
         t,
-        sound::count_of(t),
-        s.pool,
-        s.width,
-        s.shortest,
-        s.standard,
-        0 < n,
-        prefix::whole::high(bits),
-        prefix::whole::low(bits),
-        x.length as u64,
-    )
+        n: sound::count_of(t),
+        pool,
+        shortest: s.shortest,
+        standard: s.standard,
+    };
+    choose::choose(c, (0 < n).then_some(hint))
 }
 
 // A Solicit without a binding is offered what is chosen.
@@ -112,12 +112,12 @@ fn solicited(t: &[u8], asks: bool, q: Pd) -> Plan
     let s = sound::setup_of(t);
     let ps = q.prefixes;
     match choice(t, s, ps, q.count) {
-        Choice::Chosen { prefix, length } => Plan::Offer(Delegation {
-            prefix,
-            length,
+        Some(p) => Plan::Offer(Delegation {
+            prefix: p.upper,
+            length: p.length,
             excluded: s.exclusion & asks,
         }),
-        Choice::Nothing => Plan::Say(6),
+        None => Plan::Say(6),
     }
 }
 
@@ -129,15 +129,15 @@ fn requested(t: &[u8], time: u64, asks: bool, q: Pd) -> Plan
     let s = sound::setup_of(t);
     let ps = q.prefixes;
     match choice(t, s, ps, q.count) {
-        Choice::Chosen { prefix, length } => Plan::Bind {
+        Some(p) => Plan::Bind {
             lease: Delegation {
-                prefix,
-                length,
+                prefix: p.upper,
+                length: p.length,
                 excluded: s.exclusion & asks,
             },
             end: Moment(time).plus(Lifetime(s.valid)).0,
         },
-        Choice::Nothing => Plan::Say(6),
+        None => Plan::Say(6),
     }
 }
 
@@ -158,7 +158,7 @@ fn unbound(t: &[u8], time: u64, kind: Kind, asks: bool, q: Pd) -> Plan
     match kind {
         Kind::Solicit => solicited(t, asks, q),
         Kind::Request => requested(t, time, asks, q),
-        Kind::Renew => Plan::Say(3),
+        Kind::Renew | Kind::Release => Plan::Say(3),
         Kind::Rebind => {
             let ps = q.prefixes;
             if all_gone(t, ps, q.count) {
@@ -167,7 +167,6 @@ fn unbound(t: &[u8], time: u64, kind: Kind, asks: bool, q: Pd) -> Plan
                 Plan::Silence
             }
         }
-        Kind::Release => Plan::Say(3),
     }
 }
 
@@ -177,8 +176,8 @@ pub fn decide(t: &[u8], time: u64, kind: Kind, duid: &[u8], asks: bool, q: Pd) -
     ensures { Decided t.now time kind (asked_of duid.now asks q) result }
 {
     match search::find(t, sound::count_of(t), duid, q.iaid) {
-        Place::At(k) => bound(t, time, kind, k, q),
-        Place::Nothing => unbound(t, time, kind, asks, q),
+        Some(k) => bound(t, time, kind, k, q),
+        None => unbound(t, time, kind, asks, q),
     }
 }
 
@@ -187,10 +186,7 @@ fn is_live(t: &[u8], time: u64, duid: &[u8], iaid: u32) -> bool
     requires { sound_bytes t.now ≡ true }
     ensures { result ≡ is_there (binding (identity duid.now iaid) (current time (table_of t.now).records)) }
 {
-    match search::find(t, sound::count_of(t), duid, iaid) {
-        Place::At(k) => fields::live_at(t, k, time),
-        Place::Nothing => false,
-    }
+    search::find(t, sound::count_of(t), duid, iaid).is_some_and(|k| fields::live_at(t, k, time))
 }
 
 // Whether a Rebind is passed over in silence, once ended records are dropped.

@@ -1,18 +1,13 @@
 // One record's fields, read in place.
 #![tactic(auto)]
 
-ghost use Rattle.std.specs.Prelude.{◌≡◌, ◌+◌, ◌*◌, ◌≤◌, ◌<◌, ◌^◌, length};
+ghost use Rattle.std.specs.Prelude.{◌≡◌, ◌+◌, ◌*◌, ◌≤◌, ◌<◌, length};
 ghost use Rattle.rules.specs.Words.{part, same_bytes};
-ghost use Rattle.rules.specs.Prefix.{prefix};
 ghost use Rattle.rules.specs.Table.{area, live};
 ghost use Rattle.rules.specs.TableBytes.{table_size, record_at};
+ghost use Rattle.prefix.specs.Upper.{half_of};
 
-// A prefix by the upper half of its bits.
-#[derive(Clone, Copy)]
-pub struct Area {
-    pub upper: u64,
-    pub length: u64,
-}
+use prefix::half::Half;
 
 pub fn iaid_at(t: &[u8], i: usize) -> u32
     requires { (i < 256) × (table_size ≤ length t.now) }
@@ -22,14 +17,14 @@ pub fn iaid_at(t: &[u8], i: usize) -> u32
 }
 
 // Record i's prefix.
-pub fn area_at(t: &[u8], i: usize) -> Area
+pub fn area_at(t: &[u8], i: usize) -> Half
     requires { (i < 256) × (table_size ≤ length t.now) }
-    ensures { prefix (result.upper * 2 ^ 64) result.length ≡ area (record_at t.now i) }
+    ensures { half_of result ≡ area (record_at t.now i) }
 {
     let o = 176 + i * 153;
     let upper = cells::get(t, o + 5, 8);
     let length = cells::get(t, o + 13, 1);
-    Area { upper, length }
+    Half { upper, length }
 }
 
 // Whether record i ends after this time, or never.

@@ -29,10 +29,8 @@ fn bits(q: [u8; 16], i: usize) -> u8
         return 0;
     }
     let mut v: u8 = 0;
-    let mut k = 0;
-    while k < 8 {
+    for k in 0..8 {
         v = v * 2 + bit(q, i + k);
-        k += 1;
     }
     v
 }
@@ -44,10 +42,8 @@ pub fn put_exclude(out: &mut [u8], at: usize, e: [u8; 16], a: usize, b: usize)
 {
     out[at] = b as u8;
     let n = (b - a + 7) / 8;
-    let mut j = 0;
-    while j < n {
+    for j in 0..n {
         out[at + 1 + j] = bits(e, a + 8 * j);
-        j += 1;
     }
 }
 
@@ -95,10 +91,8 @@ pub fn unpack(p: [u8; 16], a: usize, c: &[u8], b: usize) -> [u8; 16]
     let mut d = [0u8; 16];
     cells::copy(&mut d, 0, c);
     let mut q = [0u8; 16];
-    let mut k = 0;
-    while k < 16 {
+    for k in 0..16 {
         q[k] = joined_byte(p, a, d, k);
-        k += 1;
     }
     q
 }

@@ -1,7 +1,14 @@
 // Prefixes by the upper 64 bits of an address, the lower ones being zero. Every function takes any length.
 ghost use Rattle.std.specs.Prelude.{◌≡◌, ◌-◌, ◌*◌, ◌^◌, ◌<◌, eqb};
 ghost use Rattle.rules.specs.Prefix.{front, zero_after, overlap, inside};
-ghost use Rattle.prefix.specs.Upper.{upper};
+ghost use Rattle.prefix.specs.Upper.{upper, half_of};
+
+// A prefix by the upper half of its bits, with its length.
+#[derive(Clone, Copy, Debug, PartialEq, Eq)]
+pub struct Half {
+    pub upper: u64,
+    pub length: u64,
+}
 
 // Equal in the first m bits.
 pub fn same_front(p: u64, q: u64, m: u64) -> bool
@@ -16,34 +23,77 @@ pub fn same_front(p: u64, q: u64, m: u64) -> bool
     p >> (64 - m) == q >> (64 - m)
 }
 
-// One lies in the other.
+impl Half {
+    // One lies in the other.
+    pub fn overlaps(self, other: Half) -> bool
+        ensures { result ≡ overlap (half_of self) (half_of other) }
+    {
+        if self.length < other.length {
+            same_front(self.upper, other.upper, self.length)
+        } else {
+            same_front(self.upper, other.upper, other.length)
+        }
+    }
+
+    // It lies in the other.
+    pub fn inside(self, other: Half) -> bool
+        ensures { result ≡ inside (half_of self) (half_of other) }
+    {
+        if self.length < other.length {
+            false
+        } else {
+            same_front(self.upper, other.upper, other.length)
+        }
+    }
+
+    // The bits after its length are zero.
+    pub fn is_aligned(self) -> bool
+        ensures { result ≡ zero_after (half_of self) }
+    {
+        if self.length == 0 {
+            return self.upper == 0;
+        }
+        if 64 <= self.length {
+            return true;
+        }
+        let s = 64 - self.length;
+        self.upper >> s << s == self.upper
+    }
+}
+
+// The same of two numbers each.
 pub fn overlap(p: u64, a: u64, q: u64, b: u64) -> bool
     ensures { result ≡ overlap (upper p a) (upper q b) }
 {
-    if a < b {
-        same_front(p, q, a)
-    } else {
-        same_front(p, q, b)
+    Half {
+        upper: p,
+        length: a,
     }
+    .overlaps(Half {
+        upper: q,
+        length: b,
+    })
 }
 
-// p lies in q.
 pub fn inside(p: u64, a: u64, q: u64, b: u64) -> bool
     ensures { result ≡ inside (upper p a) (upper q b) }
 {
-    if a < b { false } else { same_front(p, q, b) }
+    Half {
+        upper: p,
+        length: a,
+    }
+    .inside(Half {
+        upper: q,
+        length: b,
+    })
 }
 
-// The bits after the first a are zero.
 pub fn zero_after(p: u64, a: u64) -> bool
     ensures { result ≡ zero_after (upper p a) }
 {
-    if a == 0 {
-        return p == 0;
+    Half {
+        upper: p,
+        length: a,
     }
-    if 64 <= a {
-        return true;
-    }
-    let s = 64 - a;
-    p >> s << s == p
+    .is_aligned()
 }

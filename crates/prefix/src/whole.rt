@@ -4,6 +4,8 @@ ghost use Rattle.rules.specs.Words.{num};
 ghost use Rattle.rules.specs.Prefix.{prefix, front, zero_after, inside};
 ghost use Rattle.prefix.specs.Upper.{upper};
 
+use super::half::{Half, same_front};
+
 // The upper 64 bits, and the lower.
 pub fn high(q: [u8; 16]) -> u64
     ensures { result ≡ num q / 2 ^ 64 }
@@ -22,9 +24,9 @@ fn same_first(h: u64, l: u64, k: u64, m: u64, a: u64) -> bool
     ensures { result ≡ eqb (front (h * 2 ^ 64 + l) a) (front (k * 2 ^ 64 + m) a) }
 {
     if a < 64 {
-        return super::half::same_front(h, k, a);
+        return same_front(h, k, a);
     }
-    (h == k) & super::half::same_front(l, m, a - 64)
+    (h == k) & same_front(l, m, a - 64)
 }
 
 pub fn same_front16(p: [u8; 16], q: [u8; 16], a: usize) -> bool
@@ -46,9 +48,18 @@ pub fn zero_after16(q: [u8; 16], a: usize) -> bool
 {
     let m = a as u64;
     if m < 64 {
-        return super::half::zero_after(high(q), m) & (low(q) == 0);
+        return Half {
+            upper: high(q),
+            length: m,
+        }
+        .is_aligned()
+            & (low(q) == 0);
     }
-    super::half::zero_after(low(q), m - 64)
+    Half {
+        upper: low(q),
+        length: m - 64,
+    }
+    .is_aligned()
 }
 
 // q of length n lies in the prefix whose upper 64 bits are p.

@@ -8,8 +8,10 @@ ghost use Rattle.rules.specs.Table.{live, is_binding};
 ghost use Rattle.rules.specs.TableBytes.{record_at};
 ghost use Rattle.rules.specs.Choose.{hits};
 ghost use Rattle.laws.specs.Loops.{first_place};
-ghost use Rattle.prefix.specs.Upper.{upper};
-ghost use Rattle.search.specs.Binding.{binding_of, place_of};
+ghost use Rattle.prefix.specs.Upper.{half_of};
+ghost use Rattle.search.specs.Binding.{binding_of};
+
+use prefix::half::Half;
 
 // A record of the table by value: the first `len` bytes are its DUID.
 #[derive(Clone, Copy)]
@@ -21,13 +23,6 @@ pub struct Binding {
     pub length: u64,
     pub excluded: bool,
     pub end: clock::Moment,
-}
-
-// Where something stands among the records.
-#[derive(Clone, Copy)]
-pub enum Place {
-    At(usize),
-    Nothing,
 }
 
 // Record i.
@@ -54,28 +49,20 @@ pub fn record_at(t: &[u8], i: usize) -> Binding
     }
 }
 
-// Whether record i overlaps p of length a: only its prefix is read.
-pub fn hits(t: &[u8], i: usize, p: u64, a: u64) -> bool
+// Whether record i overlaps p: only its prefix is read.
+pub fn hits(t: &[u8], i: usize, p: Half) -> bool
     requires { (i < 256) × (39344 ≤ length t.now) }
-    ensures { result ≡ hits (upper p a) (record_at t.now i) }
+    ensures { result ≡ hits (half_of p) (record_at t.now i) }
 {
-    let q = fields::area_at(t, i);
-    prefix::half::overlap(q.upper, q.length, p, a)
+    fields::area_at(t, i).overlaps(p)
 }
 
-// The first of n records that overlaps p of length a.
-pub fn first_hit(t: &[u8], n: usize, p: u64, a: u64) -> Place
+// The first of n records that overlaps p.
+pub fn first_hit(t: &[u8], n: usize, p: Half) -> Option<usize>
     requires { (n ≤ 256) × (39344 ≤ length t.now) }
-    ensures { place_of result ≡ first_place (hits (upper p a)) (from (record_at t.now) 0 n) 0 }
+    ensures { result ≡ first_place (hits (half_of p)) (from (record_at t.now) 0 n) 0 }
 {
-    let mut i: usize = 0;
-    while i < n {
-        if hits(t, i, p, a) {
-            return Place::At(i);
-        }
-        i += 1;
-    }
-    Place::Nothing
+    (0..n).find(|i| hits(t, *i, p))
 }
 
 // Whether record i is a binding of this identity.
@@ -90,18 +77,11 @@ pub fn is_of(t: &[u8], i: usize, duid: &[u8], iaid: u32) -> bool
 }
 
 // The first of n records that is a binding of this identity.
-pub fn find(t: &[u8], n: usize, duid: &[u8], iaid: u32) -> Place
+pub fn find(t: &[u8], n: usize, duid: &[u8], iaid: u32) -> Option<usize>
     requires { (n ≤ 256) × (39344 ≤ length t.now) }
-    ensures { place_of result ≡ first_place (is_binding (identity duid.now iaid)) (from (record_at t.now) 0 n) 0 }
+    ensures { result ≡ first_place (is_binding (identity duid.now iaid)) (from (record_at t.now) 0 n) 0 }
 {
-    let mut i: usize = 0;
-    while i < n {
-        if is_of(t, i, duid, iaid) {
-            return Place::At(i);
-        }
-        i += 1;
-    }
-    Place::Nothing
+    (0..n).find(|i| is_of(t, *i, duid, iaid))
 }
 
 // How many of n records are live at this time.
@@ -109,11 +89,5 @@ pub fn count_live(t: &[u8], n: usize, time: u64) -> usize
     requires { (n ≤ 256) × (39344 ≤ length t.now) }
     ensures { result ≡ length (keep (live time) (from (record_at t.now) 0 n)) }
 {
-    let mut k: usize = 0;
-    let mut i: usize = 0;
-    while i < n {
-        k += fields::live_at(t, i, time) as usize;
-        i += 1;
-    }
-    k
+    (0..n).filter(|i| fields::live_at(t, *i, time)).count()
 }

@@ -1,18 +1,16 @@
-use Rattle.choose.proofs.Laws.{none_left, wide_enough, unasked, asked, other}
+use Rattle.std.proofs.Common.{rules, Fits, w64}
+use Rattle.choose.proofs.Laws.{none_left, unasked, asked, other}
 use Rattle.choose.proofs.choose.Goals as goal
 
 -- `choose`: a full table, no hint, a hint that is a place, another hint.
-pub returns-then-n-ge256 : goal.returns-then-n-ge256
-returns-then-n-ge256 c = none_left _ _ _ _ _ _ _ c.if-n-ge256.true
+pub returns-then-c-ge256 : goal.returns-then-c-ge256
+returns-then-c-ge256 c = none_left c.args.c _ c.if-c-ge256.true
 
-pub returns-then-not-hinted : goal.returns-then-not-hinted
-returns-then-not-hinted c = unasked _ _ _ _ _ _ c.if-n-ge256.false c.args.hinted c.args.high c.args.low c.args.length c.if-not-hinted.true c.shortest_from.ensures
+pub returns-in_default : goal.returns-in_default
+returns-in_default c = rw c.in_default.is (unasked c.args.c c.if-c-ge256.false c.shortest_from.ensures)
 
 pub returns-then-is_place : goal.returns-then-is_place
-returns-then-is_place c = asked _ _ _ _ _ _ c.if-n-ge256.false c.args.hinted c.args.high c.args.low c.args.length c.if-not-hinted.false _ c.is_place.ensures c.ranges.low.fits c.if-is_place.true
-
-pub shortest_from-requires-2 : goal.shortest_from-requires-2
-shortest_from-requires-2 c = (c.requires.0, wide_enough _ _ _ _ c.args.length c.requires.1 c.wanted.ensures)
+returns-then-is_place c = let f : Fits w64 c.in-Some.h.low = search rules in rw c.in-Some.is (asked c.args.c c.if-c-ge256.false c.in-Some.h c.is_place.ensures f.fits c.if-is_place.true)
 
 pub returns : goal.returns
-returns c = other _ _ _ _ _ _ c.if-n-ge256.false c.args.hinted c.args.high c.args.low c.args.length c.if-not-hinted.false _ c.is_place.ensures c.if-is_place.false c.wanted.ensures c.shortest_from-2.ensures
+returns c = rw c.in-Some.is (other c.args.c c.if-c-ge256.false c.in-Some.h c.is_place.ensures c.if-is_place.false c.wanted.ensures c.shortest_from-2.ensures)

@@ -1,4 +1,4 @@
-use Rattle.decide.proofs.Laws.{size, within, aligned, bound-solicit, bound-request, bound-renew, bound-rebind, bound-freed, bound-kept}
+use Rattle.decide.proofs.Laws.{size, within, aligned, bound-solicit, bound-request, bound-again, bound-freed, bound-kept}
 use Rattle.decide.proofs.bound.Goals as goal
 
 pub record_at-r-requires : goal.record_at-r-requires
@@ -17,10 +17,7 @@ pub returns-in-Request : goal.returns-in-Request
 returns-in-Request c = bound-request _ c.requires.0 _ c.requires.2 c.record_at-r.result c.record_at-r.ensures _ _ c.later_end-end.ensures c.in-Request.is
 
 pub returns-in-Renew : goal.returns-in-Renew
-returns-in-Renew c = bound-renew _ c.requires.0 _ c.requires.2 c.record_at-r.result c.record_at-r.ensures _ _ c.later_end-end.ensures c.in-Renew.is
-
-pub returns-in-Rebind : goal.returns-in-Rebind
-returns-in-Rebind c = bound-rebind _ c.requires.0 _ c.requires.2 c.record_at-r.result c.record_at-r.ensures _ _ c.later_end-end.ensures c.in-Rebind.is
+returns-in-Renew c = bound-again _ c.requires.0 _ c.requires.2 c.record_at-r.result c.record_at-r.ensures _ _ c.later_end-end.ensures c.in-Renew.is
 
 pub returns-then-freed : goal.returns-then-freed
 returns-then-freed c = bound-freed _ c.requires.0 _ c.requires.2 c.record_at-r.result c.record_at-r.ensures _ _ c.freed.ensures c.in-Release.is c.if-freed.true

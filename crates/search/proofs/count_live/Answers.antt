@@ -1,17 +1,15 @@
-use Rattle.std.proofs.Common.{arith, zero-add}
-use borrow.Author.Rules.{rules}
-use Rattle.std.proofs.Math.Nat.{sub-zero}
-use Rattle.laws.specs.Records.{at_most_one, counted, all-counted}
+-- `count_live`: as many places pass as records are live.
+use Rattle.std.proofs.Common.{◌∙◌, arith, rules, tests}
+use Rattle.std.proofs.lemmas.Iterator.{YieldsList-from_range}
+use Rattle.std.proofs.lemmas.Iterator.Consumers.{YieldsList-from_filter, count_from_yields_List}
+use Rattle.rules.specs.TableBytes.{record_at}
+use Rattle.rules.specs.Table.{live}
+use Rattle.search.proofs.Laws.{as_many}
 use Rattle.search.proofs.count_live.Goals as goal
 
-pub loop-i-init : goal.loop-i-init
-loop-i-init c = (omega arith, omega arith, rw (sub-zero, zero-add))
-
-pub overflow_add-k : goal.overflow_add-k
-overflow_add-k c = omega (arith, at_most_one c.live_at.result)
-
-pub loop-i-preserved : goal.loop-i-preserved
-loop-i-preserved c = (search rules, omega (arith, at_most_one c.live_at.result), counted _ _ _ _ _ _ c.loop-i-test.true c.live_at.ensures c.loop-i.invariant.2)
-
 pub returns : goal.returns
-returns c = all-counted _ _ _ _ _ _ c.loop-i-test.false c.loop-i.invariant.2
+returns c =
+    let f = live c.args.time in
+    let g = record_at c.args.t.now in
+    count_from_yields_List _ _ c.count.ensures.ran (YieldsList-from_filter _ (λ i. f (g i)) (YieldsList-from_range 0 c.args.n c.args.n (cc) (omega arith)) c.filter.ensures.closure (λ x b q k. search (rules, tests)))
+    ∙ as_many g f c.args.n 0

@@ -1,17 +1,15 @@
-use Rattle.std.proofs.Common.{sym, ◌∙◌, arith}
-use borrow.Author.Rules.{rules}
-use Rattle.std.proofs.Math.Nat.{sub-zero}
-use Rattle.laws.specs.Loops.{place-turn, place_end}
+-- `first_hit`: the first place that passes is that of the first record that does.
+use Rattle.std.proofs.Common.{◌≡◌, true, false, rules, tests}
+use Rattle.std.proofs.lemmas.Iterator.{first_from_Range}
+use Rattle.rules.specs.TableBytes.{record_at}
+use Rattle.rules.specs.Choose.{hits}
+use Rattle.prefix.specs.Upper.{half_of}
+use Rattle.search.proofs.Laws.{first-found}
 use Rattle.search.proofs.first_hit.Goals as goal
 
-pub loop-i-init : goal.loop-i-init
-loop-i-init c = (omega arith, rw sub-zero)
-
-pub returns-then-hits : goal.returns-then-hits
-returns-then-hits c = sym (c.loop-i.invariant.1 ∙ place-turn _ _ _ _ c.loop-i-test.true (sym c.hits.ensures ∙ c.if-hits.true))
-
-pub loop-i-preserved : goal.loop-i-preserved
-loop-i-preserved c = (search rules, c.loop-i.invariant.1 ∙ place-turn _ _ _ _ c.loop-i-test.true (sym c.hits.ensures ∙ c.if-hits.false))
-
 pub returns : goal.returns
-returns c = sym (c.loop-i.invariant.1 ∙ place_end _ _ _ _ c.loop-i-test.false)
+returns c =
+    let f = hits (half_of c.args.p) in
+    let g = record_at c.args.t.now in
+    first-found g f _ _
+    (first_from_Range _ _ _ _ (λ i. f (g i) ≡ true) (λ i. f (g i) ≡ false) c.find.ensures.ran (λ x q k. search (rules, tests)) (λ x q k. search (rules, tests)))

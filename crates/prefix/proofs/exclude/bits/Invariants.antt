@@ -1,10 +1,7 @@
-use Rattle.std.proofs.Common.{◌≡◌, ◌-◌, ◌≤◌}
+use Rattle.std.proofs.Common.{◌≡◌}
 use Rattle.laws.specs.Bits.{taken}
 use Rattle.prefix.proofs.exclude.bits.Given as goal
 
 -- `bits` takes the bits one at a time: what it has is the first k of eight.
 abbrev pub invariant-loop-k : goal.invariant-loop-k
-invariant-loop-k l = (l.k ≤ 8) × (l.v ≡ taken l.q l.i l.k)
-
-abbrev pub decreases-loop-k : goal.decreases-loop-k
-decreases-loop-k l = 8 - l.k
+invariant-loop-k l = l.v ≡ taken l.q l.i l.k
