@@ -1,5 +1,6 @@
 // What is malformed: one walk for every level, which calls itself for the areas inside.
 ghost use Rattle.std.specs.Prelude.{◌≡◌, ◌+◌, ◌≤◌, length};
+ghost use Rattle.rules.specs.Refusals.{wrong_size};
 ghost use Rattle.rules.specs.Options.{wants, in_any, exclude_ok, in_prefix, in_pd, in_top, own, check};
 ghost use Rattle.rules.specs.Message.{well_formed};
 ghost use Rattle.wire.specs.Judged.{is_judged};
@@ -156,6 +157,13 @@ pub fn check_area(msg: &[u8], l: Level, at: usize, end: usize) -> Checked
             }
         }
     }
+}
+
+// Whether a text is too short or too long to be read.
+pub fn wrong_size(msg: &[u8]) -> bool
+    ensures { result ≡ wrong_size msg.now }
+{
+    (msg.len() < 4) | (1232 < msg.len())
 }
 
 // Whether no option of the message is malformed.
