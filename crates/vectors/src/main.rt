@@ -1,7 +1,6 @@
 // Runs the marked examples of single options, and the boundaries of lengths, with the proved code, and prints what came out.
 #![tactic(auto)]
 
-use lone::{IdRead, MessageRead};
 use show::{say, say_hex, say_number};
 use std::io;
 use std::io::Print;
@@ -24,20 +23,21 @@ fn bits(upper: u64, lower: u64) -> [u8; 16] {
 
 // What a PD Exclude inside p of length a reads as: the excluded prefix, or the number that refuses it.
 fn exclude(rt: &impl Print, name: &[u8], p: u64, a: usize, text: &[u8]) -> io::Result<()> {
-    let r = lone::read_exclude(bits(p, 0), a, text);
-    let no = r.refusal;
-    let out = r.bits;
     say(rt, name)?;
     say(rt, b" ")?;
     say_hex(rt, text)?;
-    if no == 0 {
-        say(rt, b" reads as ")?;
-        say_hex(rt, &out)?;
-        say(rt, b"/")?;
-        say_number(rt, r.length)?;
-    } else {
-        say(rt, b" is refused: ")?;
-        say_number(rt, no as usize)?;
+    match lone::read_exclude(bits(p, 0), a, text) {
+        Ok(e) => {
+            let out = e.bits;
+            say(rt, b" reads as ")?;
+            say_hex(rt, &out)?;
+            say(rt, b"/")?;
+            say_number(rt, e.length)?;
+        }
+        Err(no) => {
+            say(rt, b" is refused: ")?;
+            rt.print(u64::from(no))?;
+        }
     }
     say(rt, b"\n")
 }
@@ -64,22 +64,13 @@ fn message(rt: &impl Print, bytes: &[u8]) -> io::Result<()> {
     say(rt, b"a message of ")?;
     say_number(rt, bytes.len())?;
     match lone::read_message(bytes) {
-        MessageRead::Refused(no) => {
-            say(rt, b" bytes is refused: ")?;
-            say_number(rt, no as usize)?;
-        }
-        MessageRead::Message {
-            kind: _,
-            number: _,
-            clients,
-            client: _,
-            servers: _,
-            server: _,
-            pds: _,
-            pd: _,
-        } => {
+        Ok(m) => {
             say(rt, b" bytes is read, with Client IDs: ")?;
-            say_number(rt, clients)?;
+            say_number(rt, m.clients)?;
+        }
+        Err(no) => {
+            say(rt, b" bytes is refused: ")?;
+            rt.print(u64::from(no))?;
         }
     }
     say(rt, b"\n")
@@ -90,15 +81,15 @@ fn client(rt: &impl Print, bytes: &[u8]) -> io::Result<()> {
     say(rt, b"a Client ID option of ")?;
     say_number(rt, bytes.len())?;
     match lone::read_id(bytes, 1) {
-        IdRead::Refused(no) => {
-            say(rt, b" bytes is refused: ")?;
-            say_number(rt, no as usize)?;
-        }
-        IdRead::Duid { start, len } => {
+        Ok(duid) => {
             say(rt, b" bytes stands at ")?;
-            say_number(rt, start)?;
+            say_number(rt, duid.start)?;
             say(rt, b", length ")?;
-            say_number(rt, len)?;
+            say_number(rt, duid.len)?;
+        }
+        Err(no) => {
+            say(rt, b" bytes is refused: ")?;
+            rt.print(u64::from(no))?;
         }
     }
     say(rt, b"\n")
