@@ -1,2 +1,3 @@
 pub mod Client
 pub mod Judged
+pub mod Spots
