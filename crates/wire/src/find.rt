@@ -1,7 +1,8 @@
-// The options of one code in an area: how many, and the k-th; and the message's Client ID.
+// The options of one code in an area: how many, and the k-th; the content of one; and the message's Client ID.
 ghost use Rattle.std.specs.Prelude.{◌≡◌, ◌≤◌, length};
-ghost use Rattle.rules.specs.Options.{area_of, count, nth};
+ghost use Rattle.rules.specs.Options.{area_of, content, count, nth};
 ghost use Rattle.wire.specs.Client.{client_stretch};
+ghost use Rattle.wire.specs.Found.{Within};
 
 use crate::options::Options;
 use rules::Spot;
@@ -22,15 +23,23 @@ pub fn find(msg: &[u8], at: usize, end: usize, w: usize, k: usize) -> Option<Spo
     Options::new(msg, at, end, w).nth(k)
 }
 
-// The one Client ID of a message, as that stretch of it: empty where there isn't exactly one.
+// The content of an option, as that stretch of the message; of nothing, nothing.
+pub fn content(msg: &[u8], f: Option<Spot>) -> &[u8]
+    requires { Within (length msg.now) f }
+    ensures { result.now ≡ content msg.now f }
+{
+    match f {
+        Some(o) => &msg[o.start..o.start + o.len],
+        None => &msg[..0],
+    }
+}
+
+// The one Client ID of a message: empty where there isn't exactly one.
 pub fn client_id(msg: &[u8]) -> &[u8]
     ensures { result.now ≡ client_stretch msg.now }
 {
     if count_of(msg, 4, msg.len(), 1) != 1 {
         return &msg[..0];
     }
-    match find(msg, 4, msg.len(), 1, 0) {
-        Some(o) => &msg[o.start..o.start + o.len],
-        None => &msg[..0],
-    }
+    content(msg, find(msg, 4, msg.len(), 1, 0))
 }

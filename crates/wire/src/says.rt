@@ -12,14 +12,9 @@ pub fn asks67(msg: &[u8], start: usize, len: usize) -> bool
     requires { start + len ≤ length msg.now }
     ensures { result ≡ asks67 (part start len msg.now) }
 {
-    let mut k = 0;
-    while 1 < len - k {
-        if 67 == u16_at(msg, start + k) {
-            return true;
-        }
-        k += 2;
-    }
-    false
+    msg[start..start + len]
+        .chunks_exact(2)
+        .any(|c| 67 == u16_at(c, 0))
 }
 
 // Whether some Status Code of an area says k.
