@@ -64,7 +64,12 @@ fn is_alone(text: &[u8], l: Level, w: usize) -> bool
     ensures { result ≡ alone l w text.now }
 {
     let len = u16_at(text, 2);
-    (u16_at(text, 0) == w) && (4 + len == text.len()) && check_one(text, l, 0, 0, w, 4, len).is_ok()
+    let o = Spot {
+        place: 0,
+        start: 4,
+        len,
+    };
+    (u16_at(text, 0) == w) && (4 + len == text.len()) && check_one(text, l, 0, w, o).is_ok()
 }
 
 // 3, 5: why a text that is to be that option alone is refused.
