@@ -1,230 +1,161 @@
-// Public readers: a whole message, or one option that stands alone and fills its text. Each is total, and answers a value of its own.
+// Public readers: a whole message, or one option that stands alone and fills its text. Each is total, and gives what it read or why it
+// refuses.
 #![tactic(auto)]
 
-ghost use Rattle.std.specs.Prelude.{◌≡◌, true, length};
+ghost use Rattle.std.specs.Prelude.{◌≡◌, IfOk};
 ghost use Rattle.rules.specs.Words.{num};
-ghost use Rattle.rules.specs.Refusals.{wrong_size};
+ghost use Rattle.rules.specs.Refusals.{done, outcome, unless};
 ghost use Rattle.rules.specs.Prefix.{prefix};
 ghost use Rattle.rules.specs.Message.{listed_at};
-ghost use Rattle.rules.specs.Lone.{alone, only, read_id, read_request, read_status, read_exclude, read_prefix, read_pd, read_message};
-ghost use Rattle.lone.specs.Answers.{lone_refusal, id_value, id_fills, request_value, status_value, exclude_value, ExcludeRest, prefix_value, PrefixRest, pd_value, pd_head, projected, message_value};
+ghost use Rattle.rules.specs.Lone.{alone, reader_tests, only, read_id, read_request, read_status, read_exclude, read_prefix, read_pd, read_message};
+ghost use Rattle.lone.specs.Answers.{id_value, Fills, exclude_value, prefix_value, pd_head, projected, message_value};
 
-use rules::{Level, Spot};
+use rules::{Level, Refusal, Spot};
 use values::IaPrefix;
-use wire::check::check_one;
+use wire::check::{check_one, wrong_size};
+use wire::content::{cut_at, prefix_at, u32_at};
+use wire::find::{count_of, find};
+use wire::says::asks67;
 use wire::walk::{u8_at, u16_at};
 
 // ---------------------------------------------------------------- what is answered
 
-// A Client ID or Server ID: its DUID, as that stretch of the text.
+// The DUID of a Client ID or Server ID, as that stretch of the text.
 #[derive(Clone, Copy)]
-pub enum IdRead {
-    Refused(u8),
-    Duid { start: usize, len: usize },
+pub struct Stretch {
+    pub start: usize,
+    pub len: usize,
 }
 
-// An Option Request: whether code 67 is in it.
+// The excluded prefix of a PD Exclude.
 #[derive(Clone, Copy)]
-pub enum RequestRead {
-    Refused(u8),
-    Asks(bool),
-}
-
-// A Status Code: the code.
-#[derive(Clone, Copy)]
-pub enum StatusRead {
-    Refused(u8),
-    Code(usize),
-}
-
-// A PD Exclude: the excluded prefix, where the refusal is 0.
-#[derive(Clone, Copy)]
-pub struct ExcludeRead {
-    pub refusal: u8,
+pub struct Excluded {
     pub length: usize,
     pub bits: [u8; 16],
 }
 
-// An IA Prefix, where the refusal is 0.
-#[derive(Clone, Copy)]
-pub struct PrefixRead {
-    pub refusal: u8,
-    pub prefix: IaPrefix,
-}
-
 // An IA_PD: its numbers, how many IA Prefixes it has, and where the first is.
 #[derive(Clone, Copy)]
-pub enum PdRead {
-    Refused(u8),
-    Pd {
-        iaid: u32,
-        t1: u32,
-        t2: u32,
-        prefixes: usize,
-        first: Option<Spot>,
-    },
+pub struct PdRead {
+    pub iaid: u32,
+    pub t1: u32,
+    pub t2: u32,
+    pub prefixes: usize,
+    pub first: Option<Spot>,
 }
 
 // A message: its type and number, how many Client IDs, Server IDs and IA_PDs it has, and where the first of each is.
 #[derive(Clone, Copy)]
-pub enum MessageRead {
-    Refused(u8),
-    Message {
-        kind: usize,
-        number: u32,
-        clients: usize,
-        client: Option<Spot>,
-        servers: usize,
-        server: Option<Spot>,
-        pds: usize,
-        pd: Option<Spot>,
-    },
+pub struct MessageRead {
+    pub kind: usize,
+    pub number: u32,
+    pub clients: usize,
+    pub client: Option<Spot>,
+    pub servers: usize,
+    pub server: Option<Spot>,
+    pub pds: usize,
+    pub pd: Option<Spot>,
 }
 
 // ---------------------------------------------------------------- what is refused
 
-fn wrong_size(text: &[u8]) -> bool
-    ensures { result ≡ wrong_size text.now }
-{
-    (text.len() < 4) | (1232 < text.len())
-}
-
 // Whether the text is the option of code w, well formed at that level, and nothing else.
-fn alone(text: &[u8], l: Level, w: usize) -> bool
+fn is_alone(text: &[u8], l: Level, w: usize) -> bool
     ensures { result ≡ alone l w text.now }
 {
-    if u16_at(text, 0) != w {
-        return false;
-    }
     let len = u16_at(text, 2);
-    if 4 + len != text.len() {
-        return false;
-    }
-    match check_one(text, l, 0, 0, w, 4, len) {
-        Ok(()) => true,
-        Err(_) => false,
-    }
+    let o = Spot {
+        place: 0,
+        start: 4,
+        len,
+    };
+    (u16_at(text, 0) == w) && (4 + len == text.len()) && check_one(text, l, 0, w, o).is_ok()
 }
 
-// The number that refuses a lone option, or 0.
-fn refusal(text: &[u8], l: Level, w: usize) -> u8
-    ensures { result ≡ lone_refusal l w text.now }
+// 3, 5: why a text that is to be that option alone is refused.
+fn alone(text: &[u8], l: Level, w: usize) -> Result<(), Refusal>
+    ensures { outcome result ≡ unless (reader_tests text.now (alone l w text.now)) (done tt) }
 {
     if wrong_size(text) {
-        return 3;
+        Err(Refusal::Size)
+    } else if is_alone(text, l, w) {
+        Ok(())
+    } else {
+        Err(Refusal::Malformed)
     }
-    if alone(text, l, w) {
-        return 0;
-    }
-    5
 }
 
 // ---------------------------------------------------------------- lone options
 
-pub fn read_id(text: &[u8], code: usize) -> IdRead
-    ensures { (id_value text.now result ≡ read_id code text.now) × (id_fills text.now result ≡ true) }
+pub fn read_id(text: &[u8], code: usize) -> Result<Stretch, Refusal>
+    ensures value { id_value text.now result ≡ read_id code text.now }
+    ensures fills { IfOk result (Fills text.now) }
 {
-    let no = refusal(text, Level::Top, code);
-    if no != 0 {
-        return IdRead::Refused(no);
-    }
-    IdRead::Duid {
+    alone(text, Level::Top, code)?;
+    Ok(Stretch {
         start: 4,
         len: text.len() - 4,
-    }
+    })
 }
 
-pub fn read_request(text: &[u8]) -> RequestRead
-    ensures { request_value result ≡ read_request text.now }
+// Whether code 67 is in an Option Request.
+pub fn read_request(text: &[u8]) -> Result<bool, Refusal>
+    ensures { outcome result ≡ read_request text.now }
 {
-    let no = refusal(text, Level::Top, 6);
-    if no != 0 {
-        return RequestRead::Refused(no);
-    }
-    RequestRead::Asks(wire::says::asks67(text, 4, text.len() - 4))
+    alone(text, Level::Top, 6)?;
+    Ok(asks67(text, 4, text.len() - 4))
 }
 
-pub fn read_status(text: &[u8]) -> StatusRead
-    ensures { status_value result ≡ read_status text.now }
+// The code of a Status Code.
+pub fn read_status(text: &[u8]) -> Result<usize, Refusal>
+    ensures { outcome result ≡ read_status text.now }
 {
-    let no = refusal(text, Level::Top, 13);
-    if no != 0 {
-        return StatusRead::Refused(no);
-    }
-    StatusRead::Code(u16_at(text, 4))
+    alone(text, Level::Top, 13)?;
+    Ok(u16_at(text, 4))
 }
 
 // A PD Exclude inside the prefix p of length a.
-pub fn read_exclude(p: [u8; 16], a: usize, text: &[u8]) -> ExcludeRead
-    ensures { (exclude_value result ≡ read_exclude (prefix (num p) a) text.now) × ExcludeRest result }
+pub fn read_exclude(p: [u8; 16], a: usize, text: &[u8]) -> Result<Excluded, Refusal>
+    ensures { exclude_value result ≡ read_exclude (prefix (num p) a) text.now }
 {
-    let no = refusal(text, Level::InPrefix(a), 67);
-    if no != 0 {
-        return ExcludeRead {
-            refusal: no,
-            length: 0,
-            bits: [0u8; 16],
-        };
-    }
-    let c = wire::content::cut_at(text, p, a, 4, text.len() - 4);
+    alone(text, Level::InPrefix(a), 67)?;
+    let c = cut_at(text, p, a, 4, text.len() - 4);
     let length = c.cut;
     let bits = c.out;
-    ExcludeRead {
-        refusal: 0,
-        length,
-        bits,
-    }
+    Ok(Excluded { length, bits })
 }
 
-pub fn read_prefix(text: &[u8]) -> PrefixRead
-    ensures { (prefix_value (listed_at text.now (only text.now)).statuses result ≡ read_prefix text.now) × PrefixRest result }
+pub fn read_prefix(text: &[u8]) -> Result<IaPrefix, Refusal>
+    ensures { prefix_value (listed_at text.now (only text.now)).statuses result ≡ read_prefix text.now }
 {
-    let no = refusal(text, Level::InPd, 26);
-    if no != 0 {
-        let none = IaPrefix {
-            preferred: 0,
-            valid: 0,
-            length: 0,
-            bits: [0u8; 16],
-            cut: 0,
-            out: [0u8; 16],
-        };
-        return PrefixRead {
-            refusal: no,
-            prefix: none,
-        };
-    }
-    let prefix = wire::content::prefix_at(text, 4, text.len() - 4);
-    PrefixRead { refusal: 0, prefix }
+    alone(text, Level::InPd, 26)?;
+    Ok(prefix_at(text, 4, text.len() - 4))
 }
 
-pub fn read_pd(text: &[u8]) -> PdRead
-    ensures { pd_value result ≡ projected (pd_head text.now) (read_pd text.now) }
+pub fn read_pd(text: &[u8]) -> Result<PdRead, Refusal>
+    ensures { outcome result ≡ projected (pd_head text.now) (read_pd text.now) }
 {
-    let no = refusal(text, Level::Top, 25);
-    if no != 0 {
-        return PdRead::Refused(no);
-    }
-    PdRead::Pd {
-        iaid: wire::content::u32_at(text, 4),
-        t1: wire::content::u32_at(text, 8),
-        t2: wire::content::u32_at(text, 12),
-        prefixes: wire::find::count_of(text, 16, text.len(), 26),
-        first: wire::find::find(text, 16, text.len(), 26, 0),
-    }
+    alone(text, Level::Top, 25)?;
+    Ok(PdRead {
+        iaid: u32_at(text, 4),
+        t1: u32_at(text, 8),
+        t2: u32_at(text, 12),
+        prefixes: count_of(text, 16, text.len(), 26),
+        first: find(text, 16, text.len(), 26, 0),
+    })
 }
 
 // ---------------------------------------------------------------- a message
 
-pub fn read_message(text: &[u8]) -> MessageRead
+pub fn read_message(text: &[u8]) -> Result<MessageRead, Refusal>
     ensures { message_value result ≡ read_message text.now }
 {
     if wrong_size(text) {
-        return MessageRead::Refused(3);
+        return Err(Refusal::Size);
     }
     let s = notes::notes_of(text);
     if !s.formed {
-        return MessageRead::Refused(5);
+        return Err(Refusal::Malformed);
     }
     let c = s.client;
     let client = c.first;
@@ -232,7 +163,7 @@ pub fn read_message(text: &[u8]) -> MessageRead
     let server = v.first;
     let d = s.pd;
     let pd = d.first;
-    MessageRead::Message {
+    Ok(MessageRead {
         kind: u8_at(text, 0),
         number: cells::get(text, 1, 3) as u32,
         clients: c.count,
@@ -241,5 +172,5 @@ pub fn read_message(text: &[u8]) -> MessageRead
         server,
         pds: d.count,
         pd,
-    }
+    })
 }

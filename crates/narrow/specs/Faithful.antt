@@ -1,28 +1,25 @@
 -- The law of one result, and that what a contract speaks of tells a result from every other.
 --   one-result, -beside    an equation of what a faithful view sees allows one result only; one with something said beside it
 --   lent-faithful, ..      the views that contracts take of a result
-use Rattle.std.specs.Prelude.{ℕ, ◌+◌, ◌≡◌, refl, Bool, true, false, cond, List, [], ◌⊎◌, eqb, length, None, Some}
+--   read-alike, read-same  the view of a result by what is seen of its value
+use Rattle.std.specs.Prelude.{ℕ, ◌≡◌, refl, Bool, true, false, cond, List, [], ◌⊎◌, eqb, length, None, Some, Result, Ok, Err, IfOk}
 use Rattle.std.proofs.Common.{sym, ap, ◌∙◌, inl, inr, arith, eqb-true}
 use Rattle.std.proofs.lemmas.Option.{none-some}
-use Rattle.std.proofs.lemmas.Bool.{eqb-false}
 use Rattle.rules.specs.Words.{num, be}
-use Rattle.rules.specs.Refusals.{Res, refuse, done}
+use Rattle.rules.specs.Refusals.{Res, refuse, done, outcome, number_of}
+use Rattle.rules.specs.Lone.{Summary}
+use Rattle.rules.specs.declared.Refusal.{Refusal}
+use Rattle.rules.specs.declared.Refusal.TheVariants.{Time, Room, Size, Unserved, Malformed, Identity, Delegation, Silence, Unsound, Settings, Busy, Early, State, Unawaited}
 use Rattle.rules.specs.Prefix.{prefix}
 use Rattle.rules.specs.Lent.{Ended, ended}
-use Rattle.laws.specs.Tests.{both}
 use Rattle.laws.specs.Numbers.{be-num}
 use Rattle.values.specs.Values.{except_of, lease_of, listed_of}
 use Rattle.values.specs.declared.IaPrefix.{IaPrefix}
-use Rattle.narrow.specs.Single.{Single, Sixteen, ExcludeBeside, Arrays, PrefixBeside, SamePrefix, SameRead}
-use Rattle.lone.specs.Answers.{unless_no, id_value, id_fills, request_value, status_value, exclude_value, ExcludeRest, prefix_value, PrefixRest, pd_value, message_value}
-use Rattle.lone.specs.declared.IdRead as id
-use Rattle.lone.specs.declared.IdRead.TheVariants as id'
-use Rattle.lone.specs.declared.RequestRead.TheVariants as request'
-use Rattle.lone.specs.declared.StatusRead.TheVariants as status'
-use Rattle.lone.specs.declared.ExcludeRead.{ExcludeRead}
-use Rattle.lone.specs.declared.PrefixRead.{PrefixRead}
-use Rattle.lone.specs.declared.PdRead.TheVariants as pd'
-use Rattle.lone.specs.declared.MessageRead.TheVariants as message'
+use Rattle.narrow.specs.Single.{Single, Sixteen, ExcludeBeside, Arrays, PrefixBeside, SamePrefix, Alike, SameRead}
+use Rattle.lone.specs.Answers.{projected, id_value, Fills, exclude_value, prefix_value, message_value}
+use Rattle.lone.specs.declared.Stretch.{Stretch}
+use Rattle.lone.specs.declared.Excluded.{Excluded}
+use Rattle.lone.specs.declared.MessageRead.{MessageRead}
 
 -- ---------------------------------------------------------------- the law
 
@@ -55,8 +52,34 @@ plain-faithful r r' e = e
 
 -- ---------------------------------------------------------------- the answers of the readers
 
-refuse-same : {A : Type 0} {n k : ℕ} → ◌≡◌ {A = Res A} (refuse n) (refuse k) → n ≡ k
-refuse-same e = cc
+-- a refusal is told by its number
+named : ℕ → Refusal
+named n =
+    cond (eqb n 1) Time (cond (eqb n 2) Room (cond (eqb n 3) Size (cond (eqb n 4) Unserved (cond (eqb n 5) Malformed
+    (cond (eqb n 6) Identity (cond (eqb n 7) Delegation (cond (eqb n 8) Silence (cond (eqb n 9) Unsound (cond (eqb n 10) Settings
+    (cond (eqb n 11) Busy (cond (eqb n 12) Early (cond (eqb n 13) State Unawaited))))))))))))
+
+named_is : (r : Refusal) → named (number_of r) ≡ r
+unfolding named
+named_is Time = refl
+named_is Room = refl
+named_is Size = refl
+named_is Unserved = refl
+named_is Malformed = refl
+named_is Identity = refl
+named_is Delegation = refl
+named_is Silence = refl
+named_is Unsound = refl
+named_is Settings = refl
+named_is Busy = refl
+named_is Early = refl
+named_is State = refl
+named_is Unawaited = refl
+
+refuse-same : {A : Type 0} {r k : Refusal} → ◌≡◌ {A = Res A} (refuse (number_of r)) (refuse (number_of k)) → r ≡ k
+refuse-same {A} {r} {k} e =
+    let n : number_of r ≡ number_of k = cc in
+    sym (named_is r) ∙ ap named n ∙ named_is k
 
 done-same : {A : Type 0} {x y : A} → done x ≡ done y → x ≡ y
 done-same e = cc
@@ -64,42 +87,47 @@ done-same e = cc
 refuse-done : {A : Type 0} {n : ℕ} {x : A} → refuse n ≡ done x → ⊥
 refuse-done e = let z : ◌≡◌ {A = ℕ} 0 1 = cc in omega arith
 
-pub request-faithful : Faithful request_value
-request-faithful (request'.Refused n) (request'.Refused k) e = ap request'.Refused (refuse-same e)
-request-faithful (request'.Refused n) (request'.Asks b) e = absurd (refuse-done e)
-request-faithful (request'.Asks a) (request'.Refused k) e = absurd (refuse-done (sym e))
-request-faithful (request'.Asks a) (request'.Asks b) e = ap request'.Asks (done-same e)
+pub outcome-faithful : {A : Type 0} → Faithful {R = Result A Refusal} outcome
+outcome-faithful (Ok x) (Ok y) e = ap Ok (done-same e)
+outcome-faithful (Ok x) (Err k) e = absurd (refuse-done (sym e))
+outcome-faithful (Err n) (Ok y) e = absurd (refuse-done e)
+outcome-faithful (Err n) (Err k) e = ap Err (refuse-same e)
 
-pub status-faithful : Faithful status_value
-status-faithful (status'.Refused n) (status'.Refused k) e = ap status'.Refused (refuse-same e)
-status-faithful (status'.Refused n) (status'.Code b) e = absurd (refuse-done e)
-status-faithful (status'.Code a) (status'.Refused k) e = absurd (refuse-done (sym e))
-status-faithful (status'.Code a) (status'.Code b) e = ap status'.Code (done-same e)
+-- values that are told apart by what is seen of them, where Q holds of them, or are then alike
+module _ {A B : Type 0} (see : A → B) (Q : A → Type 0) where
+  pub read-alike : {Same : A → A → Type 0} → ((x y : A) → Q x → Q y → see x ≡ see y → Same x y)
+      → (r r' : Result A Refusal) → IfOk r Q → IfOk r' Q → projected see (outcome r) ≡ projected see (outcome r') → Alike Same r r'
+  read-alike same (Ok x) (Ok y) p q e = same x y p q (done-same e)
+  read-alike same (Ok x) (Err k) p q e = refuse-done (sym e)
+  read-alike same (Err n) (Ok y) p q e = refuse-done e
+  read-alike same (Err n) (Err k) p q e = refuse-same e
 
-pub pd-faithful : Faithful pd_value
-pd-faithful (pd'.Refused n) (pd'.Refused k) e = ap pd'.Refused (refuse-same e)
-pd-faithful (pd'.Refused n) (pd'.Pd i a b c f) e = absurd (refuse-done e)
-pd-faithful (pd'.Pd i a b c f) (pd'.Refused k) e = absurd (refuse-done (sym e))
-pd-faithful (pd'.Pd i a b c f) (pd'.Pd i' a' b' c' f') e = ap (λ x. pd'.Pd x.iaid x.t1 x.t2 x.prefixes x.first) (done-same e)
+  pub read-same : ((x y : A) → Q x → Q y → see x ≡ see y → x ≡ y)
+      → (r r' : Result A Refusal) → IfOk r Q → IfOk r' Q → projected see (outcome r) ≡ projected see (outcome r') → r ≡ r'
+  read-same same r r' p q e = by r r' (read-alike {Same = λ x y. x ≡ y} same r r' p q e)
+    where
+      by : (r r' : Result A Refusal) → Alike (λ x y. x ≡ y) r r' → r ≡ r'
+      by (Ok x) (Ok y) h = ap Ok h
+      by (Ok x) (Err k) h = absurd h
+      by (Err n) (Ok y) h = absurd h
+      by (Err n) (Err k) h = ap Err h
+
+message : Summary → MessageRead
+message v = record { kind = v.kind; number = v.number; clients = v.clients; client = v.client; servers = v.servers; server = v.server; pds = v.pds; pd = v.pd }
 
 pub message-faithful : Faithful message_value
-message-faithful (message'.Refused n) (message'.Refused k) e = ap message'.Refused (refuse-same e)
-message-faithful (message'.Refused n) (message'.Message k x c cf s sf p pf) e = absurd (refuse-done e)
-message-faithful (message'.Message k x c cf s sf p pf) (message'.Refused n) e = absurd (refuse-done (sym e))
-message-faithful (message'.Message k x c cf s sf p pf) (message'.Message k' x' c' cf' s' sf' p' pf') e =
-    ap (λ v. message'.Message v.kind v.number v.clients v.client v.servers v.server v.pds v.pd) (done-same e)
+unfolding message
+message-faithful (Ok x) (Ok y) e = ap (λ v. Ok (message v)) (done-same e)
+message-faithful (Ok x) (Err k) e = absurd (refuse-done (sym e))
+message-faithful (Err n) (Ok y) e = absurd (refuse-done e)
+message-faithful (Err n) (Err k) e = ap Err (refuse-same e)
+
+stretch-made : {a a' n n' : ℕ} → a ≡ a' → n ≡ n' → ◌≡◌ {A = Stretch} (record { start = a; len = n }) (record { start = a'; len = n' })
+stretch-made p q = rw (p, q)
 
 -- a stretch that is all of the text after the header
-pub id-faithful : (m : List ℕ) (r r' : id.IdRead) → id_fills m r ≡ true → id_fills m r' ≡ true → id_value m r ≡ id_value m r' → r ≡ r'
-id-faithful m (id'.Refused n) (id'.Refused k) p q e = ap id'.Refused (refuse-same e)
-id-faithful m (id'.Refused n) (id'.Duid s k) p q e = absurd (refuse-done e)
-id-faithful m (id'.Duid s k) (id'.Refused n) p q e = absurd (refuse-done (sym e))
-id-faithful m (id'.Duid s k) (id'.Duid s' k') p q e =
-    let a = both (eqb s 4) (eqb (4 + k) (length m)) p in
-    let b = both (eqb s' 4) (eqb (4 + k') (length m)) q in
-    let s-same : s ≡ s' = eqb-true s 4 a.0 ∙ sym (eqb-true s' 4 b.0) in
-    let k-same : k ≡ k' = omega (arith, eqb-true (4 + k) (length m) a.1, eqb-true (4 + k') (length m) b.1) in
-    cc
+pub id-faithful : (m : List ℕ) (r r' : Result Stretch Refusal) → IfOk r (Fills m) → IfOk r' (Fills m) → id_value m r ≡ id_value m r' → r ≡ r'
+id-faithful m = read-same _ (Fills m) (λ s s' p q e. stretch-made (p.0 ∙ sym q.0) (omega (arith, p, q)))
 
 -- ---------------------------------------------------------------- the answers that hold arrays
 
@@ -107,33 +135,11 @@ pub bytes_same : {l k : List ℕ} → Sixteen l → Sixteen k → num l ≡ num 
 bytes_same {l} {k} a b e =
     sym (be-num l a.0) ∙ ap (λ n. be n (num l)) (a.1 ∙ sym b.1) ∙ ap (be (length k)) e ∙ be-num k b.0
 
--- a value beside a refusal of 0, or the refusal
-no_same : {A : Type 0} (n k : ℕ) {x y : A} → unless_no n x ≡ unless_no k y → (n ≡ k) × ((n ≡ 0) → x ≡ y)
-no_same n k {x} {y} e = by (eqb n 0) (eqb k 0) refl refl e
-  where
-    by : (a b : Bool) → eqb n 0 ≡ a → eqb k 0 ≡ b → cond a (done x) (refuse n) ≡ cond b (done y) (refuse k) → (n ≡ k) × ((n ≡ 0) → x ≡ y)
-    by true true p q h = (eqb-true n 0 p ∙ sym (eqb-true k 0 q), λ z. done-same h)
-    by true false p q h = absurd (refuse-done (sym h))
-    by false true p q h = absurd (refuse-done h)
-    by false false p q h = (refuse-same h, λ z. absurd (eqb-false n 0 p z))
+exclude-made : {a a' : ℕ} {l l' : List ℕ} → a ≡ a' → l ≡ l' → ◌≡◌ {A = Excluded} (record { length = a; bits = l }) (record { length = a'; bits = l' })
+exclude-made p q = rw (p, q)
 
-exclude-made : {n n' a a' : ℕ} {l l' : List ℕ} → n ≡ n' → a ≡ a' → l ≡ l'
-    → ◌≡◌ {A = ExcludeRead} (record { refusal = n; length = a; bits = l }) (record { refusal = n'; length = a'; bits = l' })
-exclude-made p q s = rw (p, q, s)
-
-pub exclude-faithful : (r r' : ExcludeRead) → ExcludeBeside r → ExcludeBeside r' → exclude_value r ≡ exclude_value r' → r ≡ r'
-exclude-faithful r r' p q v = by p.0 q.0
-  where
-    e : (r.refusal ≡ r'.refusal) × ((r.refusal ≡ 0) → prefix (num r.bits) r.length ≡ prefix (num r'.bits) r'.length)
-    e = no_same r.refusal r'.refusal v
-
-    given : r.refusal ≡ 0 → r ≡ r'
-    given z = exclude-made e.0 (ap (λ x. x.length) (e.1 z)) (bytes_same p.1 q.1 (ap (λ x. x.bits) (e.1 z)))
-
-    by : ExcludeRest r → ExcludeRest r' → r ≡ r'
-    by (inl z) y = given z
-    by (inr x) (inl z) = given (e.0 ∙ z)
-    by (inr x) (inr y) = exclude-made e.0 (x.0 ∙ sym y.0) (x.1 ∙ sym y.1)
+pub exclude-faithful : (r r' : Result Excluded Refusal) → ExcludeBeside r → ExcludeBeside r' → exclude_value r ≡ exclude_value r' → r ≡ r'
+exclude-faithful = read-same _ _ (λ x y p q e. exclude-made (ap (λ v. v.length) e) (bytes_same p q (ap (λ v. v.bits) e)))
 
 except-same : {a b : ℕ} {l k : List ℕ} → Sixteen l → Sixteen k → except_of a l ≡ except_of b k → (a ≡ b) × ((a ≡ 0) ⊎ (l ≡ k))
 unfolding except_of
@@ -159,26 +165,5 @@ listed_same ks x y a b e =
       out = o.1;
     }
 
-prefix_refl : {x y : IaPrefix} → x ≡ y → SamePrefix x y
-prefix_refl {x} {y} e = record {
-  preferred = ap (λ v. v.preferred) e;
-  valid = ap (λ v. v.valid) e;
-  length = ap (λ v. v.length) e;
-  bits = ap (λ v. v.bits) e;
-  cut = ap (λ v. v.cut) e;
-  out = inr (ap (λ v. v.out) e);
-}
-
-pub prefix-faithful : (ks : List ℕ) (r r' : PrefixRead) → PrefixBeside r → PrefixBeside r' → prefix_value ks r ≡ prefix_value ks r' → SameRead r r'
-prefix-faithful ks r r' p q v = (e.0, by p.0 q.0)
-  where
-    e : (r.refusal ≡ r'.refusal) × ((r.refusal ≡ 0) → listed_of r.prefix ks ≡ listed_of r'.prefix ks)
-    e = no_same r.refusal r'.refusal v
-
-    given : r.refusal ≡ 0 → SamePrefix r.prefix r'.prefix
-    given z = listed_same ks r.prefix r'.prefix p.1 q.1 (e.1 z)
-
-    by : PrefixRest r → PrefixRest r' → SamePrefix r.prefix r'.prefix
-    by (inl z) y = given z
-    by (inr x) (inl z) = given (e.0 ∙ z)
-    by (inr x) (inr y) = prefix_refl (x ∙ sym y)
+pub prefix-faithful : (ks : List ℕ) (r r' : Result IaPrefix Refusal) → PrefixBeside r → PrefixBeside r' → prefix_value ks r ≡ prefix_value ks r' → SameRead r r'
+prefix-faithful ks = read-alike _ Arrays (listed_same ks)

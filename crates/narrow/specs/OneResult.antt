@@ -1,7 +1,10 @@
 -- One result only: two results that a public operation's promise allows are equal. Every public operation has its line, in the order of
 -- docs/INTERFACE.md; each promise stands here as in the operation's contract. r is what an operation leaves: its word with each lent
 -- array that it may write, or its answer.
-use Rattle.std.specs.Prelude.{ℕ, ◌≡◌, true, List, []}
+use Rattle.std.specs.Prelude.{ℕ, ◌≡◌, List, [], Result, IfOk}
+use Rattle.rules.specs.Refusals.{outcome}
+use Rattle.rules.specs.declared.Refusal.{Refusal}
+use Rattle.values.specs.declared.IaPrefix.{IaPrefix}
 use Rattle.rules.specs.Prefix.{Prefix}
 use Rattle.rules.specs.Message.{Listed, Ia, listed_at}
 use Rattle.rules.specs.Lone.{only, read_id, read_request, read_status, read_pd, read_prefix, read_exclude, read_message, write_id, write_request, write_status, write_exclude, write_prefix, write_pd}
@@ -11,10 +14,9 @@ use Rattle.rules.specs.Settings.{Settings}
 use Rattle.rules.specs.Lent.{ended, written, box_started, box_handled, box_counted, box_shown, router_started, router_sent, router_resent, router_abandoned, router_received, router_shown}
 use Rattle.rules.specs.declared.Kind.TheVariants.{Solicit, Request, Renew, Rebind, Release}
 use Rattle.wire.specs.Client.{client_stretch}
-use Rattle.lone.specs.Answers.{id_value, id_fills, request_value, status_value, exclude_value, prefix_value, pd_value, pd_head, projected, message_value}
-use Rattle.lone.specs.declared.PrefixRead.{PrefixRead}
+use Rattle.lone.specs.Answers.{id_value, Fills, exclude_value, prefix_value, pd_head, projected, message_value}
 use Rattle.narrow.specs.Single.{Single, ExcludeBeside, PrefixBeside, SameRead}
-use Rattle.narrow.specs.Faithful.{one-result, one-result-beside, lent-faithful, room-faithful, all-faithful, plain-faithful, request-faithful, status-faithful, pd-faithful, message-faithful, id-faithful, exclude-faithful, prefix-faithful}
+use Rattle.narrow.specs.Faithful.{one-result, one-result-beside, lent-faithful, room-faithful, all-faithful, plain-faithful, outcome-faithful, message-faithful, id-faithful, exclude-faithful, prefix-faithful}
 
 -- the word and the state; the word and the room; the word, the state and the room
 abbrev Two : Type 0
@@ -43,13 +45,13 @@ pub record OneResult : Type 0 where
   -- readers
   pub client-id : (m : List ℕ) → Single (λ r. r ≡ client_stretch m)
   pub read-message : (m : List ℕ) → Single (λ r. message_value r ≡ read_message m)
-  pub read-id : (m : List ℕ) (w : ℕ) → Single (λ r. (id_value m r ≡ read_id w m) × (id_fills m r ≡ true))
-  pub read-request : (m : List ℕ) → Single (λ r. request_value r ≡ read_request m)
-  pub read-status : (m : List ℕ) → Single (λ r. status_value r ≡ read_status m)
-  pub read-pd : (m : List ℕ) → Single (λ r. pd_value r ≡ projected (pd_head m) (read_pd m))
+  pub read-id : (m : List ℕ) (w : ℕ) → Single (λ r. (id_value m r ≡ read_id w m) × IfOk r (Fills m))
+  pub read-request : (m : List ℕ) → Single (λ r. outcome r ≡ read_request m)
+  pub read-status : (m : List ℕ) → Single (λ r. outcome r ≡ read_status m)
+  pub read-pd : (m : List ℕ) → Single (λ r. outcome r ≡ projected (pd_head m) (read_pd m))
   pub read-exclude : (p : Prefix) (m : List ℕ) → Single (λ r. (exclude_value r ≡ read_exclude p m) × ExcludeBeside r)
   -- the exception: beside a cut of 0 the bytes of `out` are open
-  pub read-prefix : (m : List ℕ) (r r' : PrefixRead)
+  pub read-prefix : (m : List ℕ) (r r' : Result IaPrefix Refusal)
       → (prefix_value (listed_at m (only m)).statuses r ≡ read_prefix m) × PrefixBeside r
       → (prefix_value (listed_at m (only m)).statuses r' ≡ read_prefix m) × PrefixBeside r'
       → SameRead r r'
@@ -80,9 +82,9 @@ one-result-only = record {
   client-id = λ m. one-result plain-faithful _;
   read-message = λ m. one-result message-faithful _;
   read-id = λ m w. one-result-beside (id-faithful m) _;
-  read-request = λ m. one-result request-faithful _;
-  read-status = λ m. one-result status-faithful _;
-  read-pd = λ m. one-result pd-faithful _;
+  read-request = λ m. one-result outcome-faithful _;
+  read-status = λ m. one-result outcome-faithful _;
+  read-pd = λ m. one-result outcome-faithful _;
   read-exclude = λ p m. one-result-beside exclude-faithful _;
   read-prefix = λ m. one-result-beside (prefix-faithful _) _;
   write-id = λ out w d. one-result (room-faithful []) _;

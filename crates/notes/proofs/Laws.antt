@@ -24,7 +24,8 @@ use Rattle.rules.specs.Options.{spot}
 use Rattle.rules.specs.Options.{Checked}
 use Rattle.laws.specs.Tests.{false-true, neither}
 use Rattle.laws.specs.Steps.{Stepped, ended, any-hit, any-miss, any-stop, any-map}
-use Rattle.laws.specs.Walk.{nth_inside, scan-opt, scan-end, scan-bad, options-opt}
+use Rattle.laws.specs.Walk.{scan-opt, scan-end, scan-bad, options-opt}
+use Rattle.wire.specs.Found.{Within, nth-within}
 use Rattle.notes.specs.declared.Note.{Note}
 use Rattle.notes.specs.declared.Notes.{Notes}
 use Rattle.wire.specs.Client.{client_stretch}
@@ -239,6 +240,6 @@ module _ (m : List ℕ) (x : Note) (h : IsNote 1 m x) where
   unfolding top
   noted_one q g = client-one m h.counts q (sym g ∙ h.begins)
 
-  pub noted-inside : {p s n : ℕ} → x.first ≡ Some (spot p s n) → s + n ≤ length m
+  pub noted-within : Within (length m) x.first
   unfolding top
-  noted-inside g = nth_inside 1 0 m 4 (length m) (sym h.begins ∙ g)
+  noted-within = nth-within 1 0 m 4 (length m) x.first (omega arith) h.begins

@@ -11,7 +11,8 @@ ghost use Rattle.wire.specs.Client.{client_stretch};
 ghost use Rattle.notes.specs.Noted.{note_on, is_counted, notes, empty, IsNote, Heard};
 
 use rules::{Level, Spot, Step};
-use wire::check::check_one;
+use wire::check::{check_one, wrong_size};
+use wire::find::content;
 use wire::says::asks67;
 use wire::walk::step_at;
 
@@ -44,9 +45,9 @@ fn nothing() -> Note
 }
 
 // A note of the code w, with one more option.
-fn one_more(x: Note, w: usize, place: usize, code: usize, start: usize, len: usize) -> Note
+fn one_more(x: Note, w: usize, code: usize, o: Spot) -> Note
     requires { x.count < 2 ^ 63 }
-    ensures { result ≡ note_on w place code start len x }
+    ensures { result ≡ note_on w o.place code o.start o.len x }
 {
     if code != w {
         return x;
@@ -54,42 +55,38 @@ fn one_more(x: Note, w: usize, place: usize, code: usize, start: usize, len: usi
     if x.count == 0 {
         return Note {
             count: 1,
-            first: Some(Spot { place, start, len }),
+            first: Some(o),
         };
     }
-    let first = x.first;
     Note {
         count: x.count + 1,
-        first,
+        first: x.first,
     }
 }
 
 // Whether code 67 is asked for, by one more option.
-fn asking(msg: &[u8], asks: bool, code: usize, start: usize, len: usize) -> bool
-    requires { start + len ≤ length msg.now }
-    ensures { result ≡ asks || (eqb code 6 && asks67 (part start len msg.now)) }
+fn asking(msg: &[u8], asks: bool, code: usize, o: Spot) -> bool
+    requires { o.start + o.len ≤ length msg.now }
+    ensures { result ≡ asks || (eqb code 6 && asks67 (part o.start o.len msg.now)) }
 {
     if code != 6 {
         return asks;
     }
-    asks | asks67(msg, start, len)
+    asks | asks67(msg, o.start, o.len)
 }
 
 // Whether an option is good where it stands.
-fn good(msg: &[u8], place: usize, code: usize, start: usize, len: usize) -> bool
-    requires { start + len ≤ length msg.now }
-    ensures { result ≡ is_ok (own Top msg.now 0 place code start len) }
+fn good(msg: &[u8], code: usize, o: Spot) -> bool
+    requires { o.start + o.len ≤ length msg.now }
+    ensures { result ≡ is_ok (own Top msg.now 0 o.place code o.start o.len) }
 {
     if code == 25 {
-        return match check_one(msg, Level::Top, 0, place, code, start, len) {
-            Ok(()) => true,
-            Err(_) => false,
-        };
+        return check_one(msg, Level::Top, 0, code, o).is_ok();
     }
     if code == 6 {
-        return len % 2 == 0;
+        return o.len % 2 == 0;
     }
-    (code != 13) | (2 <= len)
+    (code != 13) | (2 <= o.len)
 }
 
 // Whether options of that code are counted.
@@ -126,7 +123,8 @@ fn whole(client: Note, server: Note, pd: Note, asks: bool) -> Notes
     }
 }
 
-// The notes of a message that has the right size. Most options tell nothing, so they are passed over at once.
+// The notes of a message that has the right size. Most options tell nothing, so they are passed over at once. Every option is asked,
+// and where the walk stops: so it takes the steps themselves.
 fn walked(msg: &[u8]) -> Notes
     requires { wrong_size msg.now ≡ false }
     ensures { Heard msg.now result }
@@ -144,14 +142,19 @@ fn walked(msg: &[u8]) -> Notes
                 len,
                 next,
             } => {
-                if !good(msg, p, code, start, len) {
+                let o = Spot {
+                    place: p,
+                    start,
+                    len,
+                };
+                if !good(msg, code, o) {
                     return no_notes();
                 }
-                asks = asking(msg, asks, code, start, len);
+                asks = asking(msg, asks, code, o);
                 if is_counted(code) {
-                    client = one_more(client, 1, p, code, start, len);
-                    server = one_more(server, 2, p, code, start, len);
-                    pd = one_more(pd, 25, p, code, start, len);
+                    client = one_more(client, 1, code, o);
+                    server = one_more(server, 2, code, o);
+                    pd = one_more(pd, 25, code, o);
                 }
                 p = next;
             }
@@ -169,13 +172,13 @@ fn walked(msg: &[u8]) -> Notes
 pub fn notes_of(msg: &[u8]) -> Notes
     ensures { Heard msg.now result }
 {
-    if (msg.len() < 4) | (1232 < msg.len()) {
+    if wrong_size(msg) {
         return no_notes();
     }
     walked(msg)
 }
 
-// The one Client ID of a message, as that stretch of it: empty where there isn't exactly one.
+// The one Client ID of a message: empty where there isn't exactly one.
 pub fn client_of(msg: &[u8], x: Note) -> &[u8]
     requires { IsNote 1 msg.now x }
     ensures { result.now ≡ client_stretch msg.now }
@@ -183,9 +186,5 @@ pub fn client_of(msg: &[u8], x: Note) -> &[u8]
     if x.count != 1 {
         return &msg[..0];
     }
-    let first = x.first;
-    match first {
-        Some(o) => &msg[o.start..o.start + o.len],
-        None => &msg[..0],
-    }
+    content(msg, x.first)
 }

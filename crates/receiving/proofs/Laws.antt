@@ -2,15 +2,17 @@
 use mathlib.Core.Path.{◌≡◌, refl, sym, ap, ◌∙◌}
 use mathlib.Core.Bool.{Bool, true, false, cond, not, ◌&&◌, ◌||◌}
 use mathlib.Core.List.{List, [], ◌∷◌, map}
-use Rattle.std.specs.Prelude.{Option, None, Some, Err, Ok}
+use Rattle.std.specs.Prelude.{Option, None, Some, Result, Err, Ok}
 use Prim.Native.Nat.{ℕ, suc, ◌+◌, ◌-◌, ◌*◌, ◌^◌, ◌≤◌, ◌<◌}
 use native.Mathlib.Omega.{arith}
+use Rattle.std.proofs.Common.{lit<}
+use Rattle.rules.specs.RouterBytes.{sound_router_bytes}
 use native.Mathlib.Nat.{add-sub_cancel_left}
 use borrow.Author.Tests.{ne_eqb, eq-eqb, eqb-true, leb-true, le-leb, not-true, not-false}
 use lib.Dec.{eqb, leb, ltb}
 use lib.ListN.{length, get_or, take, drop, replicate, length-map, get_or-map}
 use Rattle.rules.specs.Words.{all, first, part, splice, num, num_at}
-use Rattle.rules.specs.Refusals.{Res, done, unless, bad_time}
+use Rattle.rules.specs.Refusals.{Res, refuse, done, number_of, unless, bad_time}
 use Rattle.rules.specs.Prefix.{prefix, front, zero_after, fits, encodable, lease_encodable}
 use Rattle.rules.specs.Options.{area_of, in_pd, options, nth, content}
 use Rattle.rules.specs.Clock.{plus}
@@ -22,10 +24,12 @@ use Rattle.rules.specs.RouterBytes.{held_bytes, router_bytes, router_of}
 use Rattle.rules.specs.Lent.{Ended, ended, settle, no_text, router_received}
 use Rattle.rules.specs.declared.Kind.{Kind}
 use Rattle.rules.specs.declared.Kind.TheVariants.{Solicit, Request, Renew, Rebind, Release}
+use Rattle.rules.specs.declared.Refusal.{Refusal}
+use Rattle.rules.specs.declared.Refusal.TheVariants.{Time, Room, Size, Unserved, Malformed, Identity, Delegation, Silence, Unsound, Settings, Busy, Early, State, Unawaited}
 use Rattle.rules.specs.declared.Spot.{Spot}
 use Rattle.rules.specs.Options.{spot}
 use Rattle.laws.specs.Tests.{both, neither, false-true}
-use Rattle.laws.specs.Refusals.{none-applies, number-refused, unless-made}
+use Rattle.laws.specs.Refusals.{none-applies, number-refused, refused_by, unless-made}
 use Rattle.laws.specs.Every.{Every}
 use Rattle.laws.specs.Kinds.{one-stands}
 use Rattle.laws.specs.Formed.{PdFormed, PrefixFormed, formed-prefix, listed-place, ia-place}
@@ -39,21 +43,43 @@ use Rattle.values.specs.declared.IaPrefix.{IaPrefix}
 use Rattle.heard.specs.Heard.{only_of}
 use Rattle.heard.specs.Facts.{only_at, only-nothing}
 use Rattle.state.specs.Judged.{by_state}
-use Rattle.state.specs.Facts.{state-here, state-later, router-once}
+use Rattle.state.specs.Facts.{state-here, state-later, state-sound, router-once}
 use Rattle.awaited.specs.Facts.{Awaited, awaited-facts, exchange-is, open_as, kind-type}
 use Rattle.receiving.specs.Received.{awaited_tests, tests, judged, Accepted, ListedIn, first_found, taken_in, server_told}
 
 -- ---------------------------------------------------------------- 9, 1, 14
 
-module _ (b m : List ℕ) (now : ℕ) {n : ℕ} (e : n ≡ by_state b now) where
-  pub judged-state : (n ≡ 0 → ⊥) → n ≡ judged b now m
-  unfolding judged
-  judged-state h = state-here b now e (awaited_tests b m) h
+number-above : (f : Refusal) → 0 < number_of f
+number-above Time = lit< tt
+number-above Room = lit< tt
+number-above Size = lit< tt
+number-above Unserved = lit< tt
+number-above Malformed = lit< tt
+number-above Identity = lit< tt
+number-above Delegation = lit< tt
+number-above Silence = lit< tt
+number-above Unsound = lit< tt
+number-above Settings = lit< tt
+number-above Busy = lit< tt
+number-above Early = lit< tt
+number-above State = lit< tt
+number-above Unawaited = lit< tt
 
-  module _ (z : n ≡ 0) {y : Bool} (aw : y ≡ awaited (router_of b) m (read m) (router_of b).exchange) where
-    pub judged-awaited : {k : ℕ} → cond (not y) 14 0 ≡ k → k ≡ judged b now m
+refused-above : {A : Type 0} {r : Result A Refusal} {f : Refusal} → r ≡ Err f → refused_by r ≡ 0 → ⊥
+refused-above {f = f} h z = let n : number_of f ≡ 0 = sym (ap refused_by h) ∙ z in omega (arith, number-above f)
+
+module _ (b m : List ℕ) (now : ℕ) {r : Result (Unit {0}) Refusal} (e : refused_by r ≡ by_state b now) where
+  pub judged-state : {f : Refusal} → r ≡ Err f → number_of f ≡ judged b now m
+  unfolding judged
+  judged-state h = sym (ap refused_by h) ∙ state-here b now e (awaited_tests b m) (refused-above h)
+
+  module _ {u : Unit {0}} (h : r ≡ Ok u) where
+    pub judged-sound : sound_router_bytes b ≡ true
+    judged-sound = state-sound b now e (ap refused_by h)
+
+    pub judged-awaited : {y : Bool} → y ≡ awaited (router_of b) m (read m) (router_of b).exchange → {k : ℕ} → cond (not y) 14 0 ≡ k → k ≡ judged b now m
     unfolding judged
-    judged-awaited h = sym (state-later b now e z (awaited_tests b m) ∙ ap (λ t. cond (not t) 14 0) (sym aw) ∙ h)
+    judged-awaited aw q = sym (state-later b now e (ap refused_by h) (awaited_tests b m) ∙ ap (λ t. cond (not t) 14 0) (sym aw) ∙ q)
 
 -- ---------------------------------------------------------------- the first prefix that is taken
 
@@ -321,7 +347,7 @@ module _ {b m : List ℕ} {k : ℕ} (a : Accepted b m k) where
 
 -- ---------------------------------------------------------------- the whole
 
-module _ (b m : List ℕ) (now : ℕ) {n : ℕ} (e : n ≡ judged b now m) where
+module _ (b m : List ℕ) (now : ℕ) where
   abbrev after : Router
   after = accept (router_of b) now (read m) (open_of (router_of b).exchange).kind
 
@@ -332,21 +358,25 @@ module _ (b m : List ℕ) (now : ℕ) {n : ℕ} (e : n ≡ judged b now m) where
   unfolding router_received router_receive
   received_is = ap settled (router-once b ((1, bad_time (router_of b).last now) ∷ awaited_tests b m) (done after))
 
-  pub received-refused : (n ≡ 0 → ⊥) → ended (n * 65536) b [] ≡ router_received b now m
-  unfolding judged
-  received-refused h = sym (received_is ∙ ap settled (number-refused (tests b now m) (done after) e h))
-
-  module _ (z : n ≡ 0) where
-    passed : Every (λ r. r.1 ≡ false) (tests b now m)
+  module _ {r : Result (Unit {0}) Refusal} (e : refused_by r ≡ judged b now m) where
+    pub received-refused : {f : Refusal} → r ≡ Err f → ended (number_of f * 65536) b [] ≡ router_received b now m
     unfolding judged
-    passed = none-applies (tests b now m) refl e z
+    received-refused {f} h =
+        let n : refused_by r ≡ number_of f = ap refused_by h in
+        let q : unless (tests b now m) (done after) ≡ refuse (number_of f) = number-refused (tests b now m) (done after) e (refused-above h) ∙ ap refuse n in
+        sym (received_is ∙ ap settled q)
 
-    pub received-accepted : {k : ℕ} → k ≡ num_at b 346 1 → Accepted b m k
-    received-accepted q = record { sound = not-false _ passed.0; kind = q; awaits = not-false _ passed.1.1.0 }
+    module _ {u : Unit {0}} (h : r ≡ Ok u) where
+      passed : Every (λ r. r.1 ≡ false) (tests b now m)
+      unfolding judged
+      passed = none-applies (tests b now m) refl e (ap refused_by h)
 
-    pub received-long : length b ≡ 384
-    received-long = lent_length b (not-false _ passed.0)
+      pub received-accepted : {k : ℕ} → k ≡ num_at b 346 1 → Accepted b m k
+      received-accepted q = record { sound = not-false _ passed.0; kind = q; awaits = not-false _ passed.1.1.0 }
 
-    pub received-done : {c : List ℕ} → c ≡ router_bytes after → ended 0 c [] ≡ router_received b now m
-    unfolding splice
-    received-done q = ap (λ c. ended 0 c []) q ∙ sym (received_is ∙ ap settled (unless-made (tests b now m) (done after) passed))
+      pub received-long : length b ≡ 384
+      received-long = lent_length b (not-false _ passed.0)
+
+      pub received-done : {c : List ℕ} → c ≡ router_bytes after → ended 0 c [] ≡ router_received b now m
+      unfolding splice
+      received-done q = ap (λ c. ended 0 c []) q ∙ sym (received_is ∙ ap settled (unless-made (tests b now m) (done after) passed))

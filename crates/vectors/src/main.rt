@@ -1,8 +1,7 @@
 // Runs the marked examples of single options, and the boundaries of lengths, with the proved code, and prints what came out.
 #![tactic(auto)]
 
-use lone::{IdRead, MessageRead};
-use show::{Hex, outcome};
+use show::Hex;
 use std::io;
 use std::io::Print;
 
@@ -19,12 +18,10 @@ const ODD: u128 = 0x2001_0db8_dead_beef_8000_0000_0000_0000;
 
 // What a PD Exclude inside p of length a reads as: the excluded prefix, or the number that refuses it.
 fn exclude(rt: &impl Print, name: &str, p: u128, a: usize, text: &[u8]) -> io::Result<()> {
-    let read = lone::read_exclude(p.to_be_bytes(), a, text);
     print!(rt; "{name} {} ", Hex(text))?;
-    if read.refusal == 0 {
-        println!(rt; "reads as {}/{}", Hex(&read.bits), read.length)
-    } else {
-        println!(rt; "is refused: {}", read.refusal)
+    match lone::read_exclude(p.to_be_bytes(), a, text) {
+        Ok(e) => println!(rt; "reads as {}/{}", Hex(&e.bits), e.length),
+        Err(no) => println!(rt; "is refused: {}", u64::from(no)),
     }
 }
 
@@ -43,8 +40,8 @@ fn write(rt: &impl Print, name: &str, p: u128, a: usize, e: u128, b: usize) -> i
 fn message(rt: &impl Print, bytes: &[u8]) -> io::Result<()> {
     print!(rt; "a message of {} bytes is ", bytes.len())?;
     match lone::read_message(bytes) {
-        MessageRead::Refused(no) => println!(rt; "refused: {no}"),
-        MessageRead::Message { clients, .. } => println!(rt; "read, with Client IDs: {clients}"),
+        Ok(m) => println!(rt; "read, with Client IDs: {}", m.clients),
+        Err(no) => println!(rt; "refused: {}", u64::from(no)),
     }
 }
 
@@ -52,8 +49,8 @@ fn message(rt: &impl Print, bytes: &[u8]) -> io::Result<()> {
 fn client(rt: &impl Print, bytes: &[u8]) -> io::Result<()> {
     print!(rt; "a Client ID option of {} bytes ", bytes.len())?;
     match lone::read_id(bytes, 1) {
-        IdRead::Refused(no) => println!(rt; "is refused: {no}"),
-        IdRead::Duid { start, len } => println!(rt; "stands at {start}, length {len}"),
+        Ok(duid) => println!(rt; "stands at {}, length {}", duid.start, duid.len),
+        Err(no) => println!(rt; "is refused: {}", u64::from(no)),
     }
 }
 

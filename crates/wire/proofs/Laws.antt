@@ -1,5 +1,5 @@
 -- Laws that only these proofs need.
-use Rattle.std.specs.Prelude.{Err, Ok, Option, Some}
+use Rattle.std.specs.Prelude.{Ok, Option, Some}
 use mathlib.Core.Path.{◌≡◌, refl, sym, ap, ◌∙◌, subst}
 use mathlib.Core.List.{List, []}
 use mathlib.Core.Bool.{true, false}

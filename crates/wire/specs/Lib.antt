@@ -1,2 +1,4 @@
 pub mod Client
 pub mod Judged
+pub mod Spots
+pub mod Found

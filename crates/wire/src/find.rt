@@ -1,39 +1,18 @@
-// The options of one code in an area: how many, and the k-th; and the message's Client ID.
+// The options of one code in an area: how many, and the k-th; the content of one; and the message's Client ID.
 ghost use Rattle.std.specs.Prelude.{◌≡◌, ◌≤◌, length};
-ghost use Rattle.rules.specs.Options.{area_of, count, nth};
+ghost use Rattle.rules.specs.Options.{area_of, content, count, nth};
 ghost use Rattle.wire.specs.Client.{client_stretch};
+ghost use Rattle.wire.specs.Found.{Within};
 
-use crate::walk::step_at;
-use rules::{Spot, Step};
+use crate::options::Options;
+use rules::Spot;
 
 // How many options of the code w an area has.
 pub fn count_of(msg: &[u8], at: usize, end: usize, w: usize) -> usize
     requires { end ≤ length msg.now }
     ensures { result ≡ count w (area_of msg.now at end) }
 {
-    let mut p = at;
-    let mut n = 0;
-    loop {
-        match step_at(msg, p, end) {
-            Step::Opt {
-                code,
-                start: _,
-                len: _,
-                next,
-            } => {
-                if code == w {
-                    n += 1;
-                }
-                p = next;
-            }
-            Step::End => {
-                return n;
-            }
-            Step::Bad(_) => {
-                return n;
-            }
-        }
-    }
+    Options::new(msg, at, end, w).count()
 }
 
 // The k-th option of the code w in an area.
@@ -41,47 +20,26 @@ pub fn find(msg: &[u8], at: usize, end: usize, w: usize, k: usize) -> Option<Spo
     requires { end ≤ length msg.now }
     ensures { result ≡ nth w k (area_of msg.now at end) }
 {
-    let mut p = at;
-    let mut left = k;
-    loop {
-        match step_at(msg, p, end) {
-            Step::Opt {
-                code,
-                start,
-                len,
-                next,
-            } => {
-                if code == w {
-                    if left == 0 {
-                        return Some(Spot {
-                            place: p,
-                            start,
-                            len,
-                        });
-                    }
-                    left -= 1;
-                }
-                p = next;
-            }
-            Step::End => {
-                return None;
-            }
-            Step::Bad(_) => {
-                return None;
-            }
-        }
+    Options::new(msg, at, end, w).nth(k)
+}
+
+// The content of an option, as that stretch of the message; of nothing, nothing.
+pub fn content(msg: &[u8], f: Option<Spot>) -> &[u8]
+    requires { Within (length msg.now) f }
+    ensures { result.now ≡ content msg.now f }
+{
+    match f {
+        Some(o) => &msg[o.start..o.start + o.len],
+        None => &msg[..0],
     }
 }
 
-// The one Client ID of a message, as that stretch of it: empty where there isn't exactly one.
+// The one Client ID of a message: empty where there isn't exactly one.
 pub fn client_id(msg: &[u8]) -> &[u8]
     ensures { result.now ≡ client_stretch msg.now }
 {
     if count_of(msg, 4, msg.len(), 1) != 1 {
         return &msg[..0];
     }
-    match find(msg, 4, msg.len(), 1, 0) {
-        Some(o) => &msg[o.start..o.start + o.len],
-        None => &msg[..0],
-    }
+    content(msg, find(msg, 4, msg.len(), 1, 0))
 }

@@ -4,22 +4,17 @@ ghost use Rattle.rules.specs.Words.{any, part};
 ghost use Rattle.rules.specs.Options.{area_of, options};
 ghost use Rattle.rules.specs.Message.{asks67, status_at};
 
-use crate::walk::{step_at, u16_at};
-use rules::Step;
+use crate::options::Options;
+use crate::walk::u16_at;
 
 // Whether the Option Request with that content has code 67.
 pub fn asks67(msg: &[u8], start: usize, len: usize) -> bool
     requires { start + len ≤ length msg.now }
     ensures { result ≡ asks67 (part start len msg.now) }
 {
-    let mut k = 0;
-    while 1 < len - k {
-        if 67 == u16_at(msg, start + k) {
-            return true;
-        }
-        k += 2;
-    }
-    false
+    msg[start..start + len]
+        .chunks_exact(2)
+        .any(|c| 67 == u16_at(c, 0))
 }
 
 // Whether some Status Code of an area says k.
@@ -27,26 +22,5 @@ pub fn has_status(msg: &[u8], at: usize, end: usize, k: usize) -> bool
     requires { end ≤ length msg.now }
     ensures { result ≡ any (eqb k) (map (status_at msg.now) (options 13 (area_of msg.now at end))) }
 {
-    let mut p = at;
-    loop {
-        match step_at(msg, p, end) {
-            Step::Opt {
-                code,
-                start,
-                len: _,
-                next,
-            } => {
-                if (code == 13) & (k == u16_at(msg, start)) {
-                    return true;
-                }
-                p = next;
-            }
-            Step::End => {
-                return false;
-            }
-            Step::Bad(_) => {
-                return false;
-            }
-        }
-    }
+    Options::new(msg, at, end, 13).any(|o| k == u16_at(msg, o.start))
 }

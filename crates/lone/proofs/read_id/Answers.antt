@@ -1,19 +1,17 @@
 -- The DUID is all of the text after the header.
-use Rattle.std.proofs.Common.{◌+◌, ◌-◌, refl, arith, length, eq-eqb}
+use Rattle.std.proofs.Common.{◌≡◌, Err, rules}
 use Rattle.rules.specs.Lone.{only, read_id}
 use Rattle.rules.specs.Options.{content}
 use Rattle.rules.specs.declared.Level.TheVariants.{Top}
-use Rattle.lone.proofs.Laws.{alone-is, given, refused}
+use Rattle.lone.proofs.Laws.{given, refused}
 use Rattle.lone.proofs.read_id.Goals as goal
 
-pub returns-then-no-ne0 : goal.returns-then-no-ne0
+pub returns-in_err-alone-clause-value : goal.returns-in_err-alone-clause-value
 unfolding read_id
-returns-then-no-ne0 c = (refused Top c.args.code c.args.text.now c.refusal-no.ensures (λ t. content t (only t)) c.if-no-ne0.true, refl)
+returns-in_err-alone-clause-value c =
+    let e : c.from_residual.result ≡ Err c.in_err-alone.field-0.0 = search rules in
+    rw e (refused Top c.args.code c.args.text.now c.alone.ensures (λ t. content t (only t)) c.in_err-alone.was)
 
-pub overflow_sub-result : goal.overflow_sub-result
-overflow_sub-result c = omega (arith, alone-is Top c.args.code c.args.text.now c.refusal-no.ensures c.if-no-ne0.false)
-
-pub returns : goal.returns
+pub returns-clause-value : goal.returns-clause-value
 unfolding read_id
-returns c = let l = alone-is Top c.args.code c.args.text.now c.refusal-no.ensures c.if-no-ne0.false in
-    (given Top c.args.code c.args.text.now c.refusal-no.ensures (λ t. content t (only t)) c.if-no-ne0.false refl, eq-eqb (4 + (length c.args.text.now - 4)) (length c.args.text.now) (omega (arith, l.long)))
+returns-clause-value c = given Top c.args.code c.args.text.now c.alone.ensures (λ t. content t (only t)) c.in_ok-alone.was

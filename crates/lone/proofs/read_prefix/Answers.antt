@@ -1,22 +1,24 @@
 -- The IA Prefix is read at the place of its content.
-use Rattle.std.proofs.Common.{◌-◌, refl, inl, inr, arith, length, ne_eqb}
+use Rattle.std.proofs.Common.{◌≡◌, ◌∙◌, ◌-◌, ap, arith, length, Err, rules}
 use Rattle.rules.specs.Lone.{only, read_prefix}
 use Rattle.rules.specs.Message.{listed_at}
+use Rattle.rules.specs.Refusals.{done}
 use Rattle.rules.specs.declared.Level.TheVariants.{InPd}
 use Rattle.laws.specs.Formed.{judged-prefix}
-use Rattle.lone.proofs.Laws.{alone-is, given, refused}
+use Rattle.lone.proofs.Laws.{Alone, alone-is, given, refused}
 use Rattle.lone.proofs.read_prefix.Goals as goal
 
-pub returns-then-no-ne0 : goal.returns-then-no-ne0
+pub returns-in_err-alone : goal.returns-in_err-alone
 unfolding read_prefix
-returns-then-no-ne0 c = (simp (ne_eqb _ _ c.if-no-ne0.true) (refused InPd 26 c.args.text.now c.refusal-no.ensures (λ t. listed_at t (only t)) c.if-no-ne0.true), inr refl)
+returns-in_err-alone c =
+    let e : c.from_residual.result ≡ Err c.in_err-alone.field-0.0 = search rules in
+    rw e (refused InPd 26 c.args.text.now c.alone.ensures (λ t. listed_at t (only t)) c.in_err-alone.was)
 
-pub overflow_sub-text : goal.overflow_sub-text
-overflow_sub-text c = omega (arith, alone-is InPd 26 c.args.text.now c.refusal-no.ensures c.if-no-ne0.false)
-
-pub prefix_at-prefix-requires : goal.prefix_at-prefix-requires
-prefix_at-prefix-requires c = let s = alone-is InPd 26 c.args.text.now c.refusal-no.ensures c.if-no-ne0.false in judged-prefix c.args.text.now 0 0 4 (length c.args.text.now - 4) (omega arith) s.good
+pub prefix_at-requires : goal.prefix_at-requires
+prefix_at-requires c =
+    let one : Alone InPd 26 c.args.text.now = alone-is _ _ _ c.alone.ensures c.in_ok-alone.was in
+    judged-prefix c.args.text.now 0 0 4 (length c.args.text.now - 4) (omega (arith, one)) one.good
 
 pub returns : goal.returns
 unfolding read_prefix
-returns c = (given InPd 26 c.args.text.now c.refusal-no.ensures (λ t. listed_at t (only t)) c.if-no-ne0.false c.prefix_at-prefix.ensures, inl refl)
+returns c = ap done c.prefix_at.ensures ∙ given InPd 26 c.args.text.now c.alone.ensures (λ t. listed_at t (only t)) c.in_ok-alone.was

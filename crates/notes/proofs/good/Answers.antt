@@ -1,14 +1,11 @@
 -- By its code.
 use Rattle.std.specs.Prelude.{is_ok}
-use Rattle.std.proofs.Common.{◌∙◌, ap, sym}
+use Rattle.std.proofs.Common.{◌∙◌, ap}
 use Rattle.notes.proofs.Laws.{good-other, good-request}
 use Rattle.notes.proofs.good.Goals as goal
 
-pub returns-in-Ok : goal.returns-in-Ok
-returns-in-Ok c = sym (ap is_ok (sym c.check_one.ensures ∙ c.in-Ok.is))
-
-pub returns-in-Err : goal.returns-in-Err
-returns-in-Err c = sym (ap is_ok (sym c.check_one.ensures ∙ c.in-Err.is))
+pub returns-then-code-eq25 : goal.returns-then-code-eq25
+returns-then-code-eq25 c = c.is_ok.ensures.value ∙ ap is_ok c.check_one.ensures
 
 pub returns-then-code-eq6 : goal.returns-then-code-eq6
 returns-then-code-eq6 c = good-request _ _ _ _ _ c.if-code-eq6.true

@@ -40,21 +40,21 @@ check_area-returns-in-Bad t c = sym (c.loop-code.invariant.1 ∙ scan-bad _ _ _ 
 
 pub check_one-returns-in-Top : goal.check_one-returns-in-Top
 unfolding own
-check_one-returns-in-Top t c = own_is c.args.msg.now c.args.seen c.args.place c.args.code c.args.start c.args.len c.in-Top.is c.in_top.ensures
+check_one-returns-in-Top t c = own_is c.args.msg.now c.args.seen c.args.o.place c.args.code c.args.o.start c.args.o.len c.in-Top.is c.in_top.ensures
 
 pub check_one-returns-in-InPd : goal.check_one-returns-in-InPd
 unfolding own
-check_one-returns-in-InPd t c = own_is c.args.msg.now c.args.seen c.args.place c.args.code c.args.start c.args.len c.in-InPd.is c.in_pd.ensures
+check_one-returns-in-InPd t c = own_is c.args.msg.now c.args.seen c.args.o.place c.args.code c.args.o.start c.args.o.len c.in-InPd.is c.in_pd.ensures
 
 pub check_one-returns-in-InPrefix : goal.check_one-returns-in-InPrefix
 unfolding own
-check_one-returns-in-InPrefix t c = own_is c.args.msg.now c.args.seen c.args.place c.args.code c.args.start c.args.len c.in-InPrefix.is c.in_prefix.ensures
+check_one-returns-in-InPrefix t c = own_is c.args.msg.now c.args.seen c.args.o.place c.args.code c.args.o.start c.args.o.len c.in-InPrefix.is c.in_prefix.ensures
 
 pub in_pd-returns-then-code-eq26 : goal.in_pd-returns-then-code-eq26
 unfolding check own check_prefix
 in_pd-returns-then-code-eq26 t c =
-    c.check_area.ensures ∙ simp (eq-eqb _ _ c.if-code-eq26.true, le-leb _ _ c.if-len-lt25.false, ← c.u8_at-a.ensures.0, le-leb _ _ c.if-a-gt128.false)
+    c.check_area.ensures ∙ simp (eq-eqb _ _ c.if-code-eq26.true, le-leb _ _ c.if-o-lt25.false, ← c.u8_at-a.ensures.0, le-leb _ _ c.if-a-gt128.false)
 
 pub in_top-returns-then-code-eq25 : goal.in_top-returns-then-code-eq25
 unfolding check own check_pd
-in_top-returns-then-code-eq25 t c = c.check_area.ensures ∙ simp (eq-eqb _ _ c.if-code-eq25.true, le-leb _ _ c.if-len-lt12.false)
+in_top-returns-then-code-eq25 t c = c.check_area.ensures ∙ simp (eq-eqb _ _ c.if-code-eq25.true, le-leb _ _ c.if-o-lt12.false)

@@ -1,5 +1,5 @@
 -- Each field is read at its place.
-use Rattle.std.specs.Prelude.{Err, Ok}
+use Rattle.std.specs.Prelude.{Ok}
 use Rattle.std.proofs.Common.{◌≡◌, subst, sym, ◌+◌, ℕ, arith}
 use Rattle.rules.specs.Options.{check_prefix}
 use Rattle.wire.proofs.Laws.{listed-read}

@@ -1,35 +1,18 @@
-use Rattle.std.proofs.Common.{◌∙◌, ap, sym, arith, length}
-use Rattle.laws.specs.Steps.{Stepped, broke, ended, options-here, options-past, stepped}
+-- As many as the iterator gives.
+use Rattle.std.proofs.Common.{◌∙◌, ◌≡◌, ap, arith, inl, length, refl}
+use Rattle.std.proofs.lemmas.Iterator.Consumers.{YieldsList-from_first, count_from_yields_List}
+use Rattle.rules.specs.Options.{area_of, options}
+use Rattle.wire.proofs.Spots.{spots-count, spots-few}
+use Rattle.wire.specs.Spots.{left, there}
 use Rattle.wire.proofs.find.count_of.Goals as goal
 
-pub overflow_add-n : goal.overflow_add-n
-overflow_add-n c =
-    -- the option that a turn found
-    let found : Stepped c.args.msg.now c.loop-code.p c.args.end c.in-Opt.code c.in-Opt.start c.in-Opt.len c.in-Opt.next = stepped _ _ _ (cc) in
-    omega (arith, found)
+pub count-requires-clause-fits : goal.count-requires-clause-fits
+count-requires-clause-fits c =
+    let o = c.new.result in
+    let few = spots-few o.code o.msg.now o.at o.end in
+    inl (omega (arith, few, c.new.ensures.2, c.requires))
 
-pub loop-code-smaller-then-code-w : goal.loop-code-smaller-then-code-w
-loop-code-smaller-then-code-w c =
-    let found : Stepped c.args.msg.now c.loop-code.p c.args.end c.in-Opt.code c.in-Opt.start c.in-Opt.len c.in-Opt.next = stepped _ _ _ (cc) in
-    omega (arith, found)
-
-pub loop-code-preserved-then-code-w : goal.loop-code-preserved-then-code-w
-loop-code-preserved-then-code-w c =
-    let found : Stepped c.args.msg.now c.loop-code.p c.args.end c.in-Opt.code c.in-Opt.start c.in-Opt.len c.in-Opt.next = stepped _ _ _ (cc) in
-    (omega (arith, found), omega (arith, ap length (options-here _ found c.if-code-w.true)))
-
-pub loop-code-smaller : goal.loop-code-smaller
-loop-code-smaller c =
-    let found : Stepped c.args.msg.now c.loop-code.p c.args.end c.in-Opt.code c.in-Opt.start c.in-Opt.len c.in-Opt.next = stepped _ _ _ (cc) in
-    omega (arith, found)
-
-pub loop-code-preserved : goal.loop-code-preserved
-loop-code-preserved c =
-    let found : Stepped c.args.msg.now c.loop-code.p c.args.end c.in-Opt.code c.in-Opt.start c.in-Opt.len c.in-Opt.next = stepped _ _ _ (cc) in
-    (omega (arith, found), omega (arith, ap length (options-past _ found c.if-code-w.false)))
-
-pub returns-in-End : goal.returns-in-End
-returns-in-End c = omega (arith, ap length ((ended c.args.msg.now c.loop-code.p c.args.end (cc)).none c.args.w))
-
-pub returns-in-Bad : goal.returns-in-Bad
-returns-in-Bad c = omega (arith, ap length ((broke c.args.msg.now c.loop-code.p c.args.end (sym c.step_at.ensures ∙ c.in-Bad.is)).none c.args.w))
+pub returns : goal.returns
+returns c =
+    let is : left c.new.result ≡ there (options c.args.w (area_of c.args.msg.now c.args.at c.args.end)) = simp (c.new.ensures.0, c.new.ensures.1, c.new.ensures.2, c.new.ensures.3) in
+    count_from_yields_List c.new.result _ c.count.ensures.ran (YieldsList-from_first (λ x. x) left _ refl) ∙ ap length is ∙ spots-count c.args.w (area_of c.args.msg.now c.args.at c.args.end)

@@ -1,17 +1,13 @@
-use Rattle.std.proofs.Common.{◌∙◌, sym, add-zero, arith}
-use Rattle.std.proofs.Math.Nat.{sub-zero}
-use borrow.Author.Rules.{rules}
-use Rattle.laws.specs.Asks.{asks-end, asks-here, asks-on}
+-- Some of the codes is 67.
+use Rattle.std.proofs.Common.{◌∙◌, ap, eqb, rules, tests}
+use Rattle.std.proofs.lemmas.Iterator.Search.{any_from_yields_List}
+use Rattle.std.specs.Slice.Iter.{chunks_exact_rest}
+use Rattle.rules.specs.Message.{asks67, codes}
+use Rattle.wire.proofs.Codes.{any-listed, codes-given}
+use Rattle.wire.proofs.Laws.{stretch}
 use Rattle.wire.proofs.says.asks67.Goals as goal
 
-pub loop-k-init : goal.loop-k-init
-loop-k-init c = (omega arith, rw (add-zero, sub-zero))
-
-pub returns-then-u16_at-eq67 : goal.returns-then-u16_at-eq67
-returns-then-u16_at-eq67 c = sym (c.loop-k.invariant.1 ∙ asks-here _ _ _ _ c.loop-k-test.true c.requires c.u16_at.ensures.0 c.if-u16_at-eq67.true)
-
-pub loop-k-preserved : goal.loop-k-preserved
-loop-k-preserved c = (search rules, c.loop-k.invariant.1 ∙ asks-on _ _ _ _ c.loop-k-test.true c.requires c.u16_at.ensures.0 c.if-u16_at-eq67.false)
-
 pub returns : goal.returns
-returns c = sym (c.loop-k.invariant.1 ∙ asks-end _ _ _ _ c.loop-k-test.false)
+returns c =
+    any_from_yields_List (eqb 67) c.any.new.self _ _ c.any.ensures.ran (codes-given c.chunks_exact.result c.chunks_exact.ensures.size) (λ x b q k. search (rules, tests))
+    ∙ any-listed (eqb 67) (codes (chunks_exact_rest c.chunks_exact.result)) ∙ ap asks67 (c.chunks_exact.ensures.rest ∙ stretch c.args.msg.now c.args.start c.args.len)
