@@ -9,32 +9,30 @@ ghost use Rattle.rules.specs.Identity.{kind_of};
 ghost use Rattle.rules.specs.Box.{ia_of};
 ghost use Rattle.rules.specs.Router.{takes, held_until, taken, held_after};
 ghost use Rattle.rules.specs.RouterBytes.{held_bytes, router_of};
-ghost use Rattle.rules.specs.Lent.{ended, router_received};
+ghost use Rattle.rules.specs.Lent.{ended, word_of, router_received};
 ghost use Rattle.rules.specs.Options.{spot};
+ghost use Rattle.laws.specs.Refusals.{refused_by};
 ghost use Rattle.laws.specs.Formed.{PdFormed};
 ghost use Rattle.values.specs.Values.{lease_of, lease_encodes, listed_of};
 ghost use Rattle.receiving.specs.Received.{judged, Accepted, ListedIn, taken_in, server_told};
 
 use clock::{Lifetime, Moment};
 use heard::only;
-use rules::Spot;
+use rules::{Refusal, Spot};
 use state::judge::by_state;
 use values::IaPrefix;
 use wire::content::prefix_at;
 use wire::find::{count_of, find};
 
-// 9, 1, 14: the number of the refusal, or 0.
-fn judge(t: &[u8], time: u64, msg: &[u8]) -> u64
-    ensures { (result ≡ judged t.now time msg.now) × (result < 16) }
+// 9, 1, 14.
+fn judge(t: &[u8], time: u64, msg: &[u8]) -> Result<(), Refusal>
+    ensures { refused_by result ≡ judged t.now time msg.now }
 {
-    let n = by_state(t, time);
-    if n != 0 {
-        return n;
-    }
+    by_state(t, time)?;
     if !awaited::awaited(t, msg) {
-        return 14;
+        return Err(Refusal::Unawaited);
     }
-    0
+    Ok(())
 }
 
 // Valid above 0, preferred at most valid, and zero bits after the length.
@@ -126,15 +124,12 @@ fn server_after(msg: &[u8], kind: u64) -> &[u8]
     }
 }
 
-pub fn receive(t: &mut [u8], time: u64, msg: &[u8]) -> u64
-    ensures { ended result t.new [] ≡ router_received t.old time msg.now }
+pub fn receive(t: &mut [u8], time: u64, msg: &[u8]) -> Result<usize, Refusal>
+    ensures { ended (word_of result) t.new [] ≡ router_received t.old time msg.now }
 {
-    let n = judge(t, time, msg);
-    if n != 0 {
-        return n * 65536;
-    }
+    judge(t, time, msg)?;
     let kind = cells::get(t, 346, 1);
     let held = held_after(t, time, msg, kind);
     state::change::accept(t, time, server_after(msg, kind), held);
-    0
+    Ok(0)
 }
