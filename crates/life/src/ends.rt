@@ -1,6 +1,7 @@
 // The two ends: each operation with its line.
 use crate::speak::{say_at, say_end, say_message, say_type};
 use crate::texts::{part, text};
+use rules::{Kind, Refusal};
 use show::{say, say_number};
 use std::io;
 use std::io::Print;
@@ -68,7 +69,7 @@ pub fn router_starts(
     wanted: u64,
     time: u64,
 ) -> io::Result<()> {
-    let word = requester::opening::start(state, duid, iaid, wanted, time);
+    let word = word_for(requester::opening::start(state, duid, iaid, wanted, time));
     say_at(rt, time, b" router starts, DUID of ")?;
     say_number(rt, duid.len())?;
     say(rt, b" bytes, wanted length ")?;
@@ -76,20 +77,17 @@ pub fn router_starts(
     say_end(rt, word, duid, b"done")
 }
 
+// The word for C.
+fn word_for(r: Result<usize, Refusal>) -> u64 {
+    match r {
+        Ok(n) => n as u64,
+        Err(e) => u64::from(e) << 16,
+    }
+}
+
 fn send(state: &mut [u8; 384], kind: u8, time: u64, room: &mut [u8; 512]) -> u64 {
-    if kind == 1 {
-        return requester::asking::solicit(state, time, room);
-    }
-    if kind == 3 {
-        return requester::asking::request(state, time, room);
-    }
-    if kind == 5 {
-        return requester::asking::renew(state, time, room);
-    }
-    if kind == 6 {
-        return requester::asking::rebind(state, time, room);
-    }
-    requester::asking::release(state, time, room)
+    let kind = Kind::try_from(kind).unwrap_or(Kind::Release);
+    word_for(requester::asking::send(state, kind, time, room))
 }
 
 pub fn router_sends(
@@ -112,14 +110,14 @@ pub fn router_resends(
     time: u64,
     room: &mut [u8; 512],
 ) -> io::Result<u64> {
-    let word = requester::asking::resend(state, time, room);
+    let word = word_for(requester::asking::resend(state, time, room));
     say_at(rt, time, b" router sends it again")?;
     say_end(rt, word, text(room, word), b"done")?;
     Ok(word)
 }
 
 pub fn router_abandons(rt: &impl Print, state: &mut [u8; 384], time: u64) -> io::Result<()> {
-    let word = requester::asking::abandon(state, time);
+    let word = word_for(requester::asking::abandon(state, time));
     say_at(rt, time, b" router abandons it")?;
     say_end(rt, word, b"-", b"done")
 }
@@ -131,7 +129,7 @@ pub fn router_hears(
     msg: &[u8],
     how: &[u8],
 ) -> io::Result<()> {
-    let word = requester::hearing::receive(state, time, msg);
+    let word = word_for(requester::hearing::receive(state, time, msg));
     say_at(rt, time, b" router hears: ")?;
     say_message(rt, msg, how)?;
     say_end(rt, word, msg, b"done")
@@ -139,7 +137,7 @@ pub fn router_hears(
 
 pub fn router_holds(rt: &impl Print, state: &[u8; 384], time: u64) -> io::Result<()> {
     let mut room = [0u8; 42];
-    let word = requester::showing::held(state, time, &mut room);
+    let word = word_for(requester::showing::held(state, time, &mut room));
     say_at(rt, time, b" router holds")?;
     say_end(rt, word, &room, b"nothing")
 }
