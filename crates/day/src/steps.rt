@@ -3,15 +3,16 @@ ghost use Rattle.std.specs.Prelude.{◌+◌, ◌≤◌, length};
 
 use crate::words::{bytes, number};
 use delegator::handling::handle;
-use show::{Hex, outcome};
+use rules::Refusal;
+use show::Hex;
 use std::io;
 use std::io::Print;
 
 // What came of a message: the refusal's number, or the answer at the front of the room. What is written past it is told too.
-fn tell(rt: &impl Print, came: Result<usize, u64>, room: &[u8]) -> io::Result<()> {
+fn tell(rt: &impl Print, came: Result<usize, Refusal>, room: &[u8]) -> io::Result<()> {
     match came {
         Ok(n) => print!(rt; "{}", Hex(room.get(..n).unwrap_or(b"")))?,
-        Err(no) => print!(rt; "refused {no}")?,
+        Err(no) => print!(rt; "refused {}", u64::from(no))?,
     }
     if room.iter().skip(came.unwrap_or(0)).any(|b| *b != 0xee) {
         print!(rt; " and more")?;
@@ -28,7 +29,7 @@ pub struct Day<'a, P> {
 
 impl<P: Print> Day<'_, P> {
     fn begin(&mut self, line: &[u8]) -> io::Result<()> {
-        let came = outcome(delegator::opening::start(
+        let came = delegator::opening::start(
             &mut self.table,
             number(line, 1, 16),
             0,
@@ -40,17 +41,17 @@ impl<P: Print> Day<'_, P> {
             number(line, 7, 10) == 1,
             bytes(line, 8, &mut [0u8; 4096]),
             number(line, 9, 10),
-        ));
+        );
         match came {
             Ok(_) => print!(self.rt; "started"),
-            Err(no) => print!(self.rt; "refused {no}"),
+            Err(no) => print!(self.rt; "refused {}", u64::from(no)),
         }
     }
 
     fn count(&self, time: u64) -> io::Result<()> {
-        match outcome(delegator::showing::live(&self.table, time)) {
+        match delegator::showing::live(&self.table, time) {
             Ok(n) => print!(self.rt; "live {n}"),
-            Err(no) => print!(self.rt; "refused {no}"),
+            Err(no) => print!(self.rt; "refused {}", u64::from(no)),
         }
     }
 
@@ -64,7 +65,7 @@ impl<P: Print> Day<'_, P> {
         let size = if number(line, 2, 10) == 511 { 511 } else { 512 };
         let mut room = [0xeeu8; 512];
         let room = &mut room[..size];
-        let came = outcome(handle(&mut self.table, time, text, room));
+        let came = handle(&mut self.table, time, text, room);
         tell(self.rt, came, room)
     }
 
@@ -76,13 +77,13 @@ impl<P: Print> Day<'_, P> {
         text: &mut [u8],
         at: usize,
         room: &mut [u8],
-    ) -> Result<usize, u64>
+    ) -> Result<usize, Refusal>
         requires { at + 2 ≤ length text.old }
     {
         let mut last = Ok(0);
         for i in 0..turns {
             cells::put(text, at, 2, i);
-            last = outcome(handle(&mut self.table, time, text, room));
+            last = handle(&mut self.table, time, text, room);
         }
         last
     }

@@ -3,9 +3,21 @@
 
 ghost use Rattle.std.specs.Prelude.{◌≡◌, []};
 ghost use Rattle.rules.specs.Identity.{identity};
-ghost use Rattle.rules.specs.Lent.{ended, box_started, box_handled, box_counted, box_shown, router_started, router_sent, router_resent, router_abandoned, router_received, router_shown};
+ghost use Rattle.rules.specs.Lent.{ended, word_of, box_started, box_handled, box_counted, box_shown, router_started, router_sent, router_resent, router_abandoned, router_received, router_shown};
 ghost use Rattle.rules.specs.declared.Kind.TheVariants.{Solicit, Request, Renew, Rebind, Release};
 ghost use Rattle.delegator.specs.Given.{given};
+
+use rules::{Kind, Refusal};
+
+// The word for C: how much was written, or the refusal's number times 65,536.
+fn word(r: Result<usize, Refusal>) -> u64
+    ensures { result ≡ word_of r }
+{
+    match r {
+        Ok(n) => n as u64,
+        Err(e) => u64::from(e) * 65536,
+    }
+}
 
 // ---------------------------------------------------------------- the box
 
@@ -68,68 +80,68 @@ pub extern "C" fn pd_router_start(
 ) -> u64
     ensures { ended result state.new [] ≡ router_started state.old (identity duid.now iaid) wanted time }
 {
-    requester::opening::start(state, duid, iaid, wanted, time)
+    word(requester::opening::start(state, duid, iaid, wanted, time))
 }
 
 #[unsafe(no_mangle)]
 pub extern "C" fn pd_router_solicit(state: &mut [u8; 384], time: u64, message: &mut [u8]) -> u64
     ensures { ended result state.new message.new ≡ router_sent Solicit state.old time message.old }
 {
-    requester::asking::solicit(state, time, message)
+    word(requester::asking::send(state, Kind::Solicit, time, message))
 }
 
 #[unsafe(no_mangle)]
 pub extern "C" fn pd_router_request(state: &mut [u8; 384], time: u64, message: &mut [u8]) -> u64
     ensures { ended result state.new message.new ≡ router_sent Request state.old time message.old }
 {
-    requester::asking::request(state, time, message)
+    word(requester::asking::send(state, Kind::Request, time, message))
 }
 
 #[unsafe(no_mangle)]
 pub extern "C" fn pd_router_renew(state: &mut [u8; 384], time: u64, message: &mut [u8]) -> u64
     ensures { ended result state.new message.new ≡ router_sent Renew state.old time message.old }
 {
-    requester::asking::renew(state, time, message)
+    word(requester::asking::send(state, Kind::Renew, time, message))
 }
 
 #[unsafe(no_mangle)]
 pub extern "C" fn pd_router_rebind(state: &mut [u8; 384], time: u64, message: &mut [u8]) -> u64
     ensures { ended result state.new message.new ≡ router_sent Rebind state.old time message.old }
 {
-    requester::asking::rebind(state, time, message)
+    word(requester::asking::send(state, Kind::Rebind, time, message))
 }
 
 #[unsafe(no_mangle)]
 pub extern "C" fn pd_router_release(state: &mut [u8; 384], time: u64, message: &mut [u8]) -> u64
     ensures { ended result state.new message.new ≡ router_sent Release state.old time message.old }
 {
-    requester::asking::release(state, time, message)
+    word(requester::asking::send(state, Kind::Release, time, message))
 }
 
 #[unsafe(no_mangle)]
 pub extern "C" fn pd_router_resend(state: &mut [u8; 384], time: u64, message: &mut [u8]) -> u64
     ensures { ended result state.new message.new ≡ router_resent state.old time message.old }
 {
-    requester::asking::resend(state, time, message)
+    word(requester::asking::resend(state, time, message))
 }
 
 #[unsafe(no_mangle)]
 pub extern "C" fn pd_router_abandon(state: &mut [u8; 384], time: u64) -> u64
     ensures { ended result state.new [] ≡ router_abandoned state.old time }
 {
-    requester::asking::abandon(state, time)
+    word(requester::asking::abandon(state, time))
 }
 
 #[unsafe(no_mangle)]
 pub extern "C" fn pd_router_receive(state: &mut [u8; 384], time: u64, message: &[u8]) -> u64
     ensures { ended result state.new [] ≡ router_received state.old time message.now }
 {
-    requester::hearing::receive(state, time, message)
+    word(requester::hearing::receive(state, time, message))
 }
 
 #[unsafe(no_mangle)]
 pub extern "C" fn pd_router_held(state: &[u8; 384], time: u64, room: &mut [u8]) -> u64
     ensures { ended result state.now room.new ≡ router_shown state.now time room.old }
 {
-    requester::showing::held(state, time, room)
+    word(requester::showing::held(state, time, room))
 }

@@ -86,16 +86,6 @@ release-type Renew = refl
 release-type Rebind = refl
 release-type Release = refl
 
-release-if : (k : ℕ) → served k ≡ true → is_release (kind_of k) ≡ eqb k 8
-release-if k h = release-type (kind_of k) ∙ ap (λ n. eqb n 8) (sym (served-type k h))
-
-carries-none : (d : Kind) → carries d None ≡ None
-carries-none Solicit = refl
-carries-none Request = refl
-carries-none Renew = refl
-carries-none Rebind = refl
-carries-none Release = refl
-
 -- the open exchange by its type
 pub open-type : (b : List ℕ) (o : Option Exchange) → part 346 35 b ≡ exchange_bytes o → is_open o ≡ true → (Some (open_of o) ≡ o) × (num_at b 346 1 ≡ type_of (open_of o).kind)
 open-type b None q h = absurd (false≢true h)
@@ -108,102 +98,56 @@ module _ (b : List ℕ) (sound : sound_router_bytes b ≡ true) (time : ℕ) whe
   abbrev fields : Fields b (router_fields (router_of b)) router_sizes
   fields = lent-fields b sound
 
-  -- the delegation that a message of type k carries; n and t are what code reads, the flag of the hold and its end
-  module _ (k : ℕ) {n t : ℕ} (en : n ≡ num_at b 303 1) (et : t ≡ num_at b 338 8) where
-    abbrev carries_none : Bool
-    carries_none = eqb k 1 || eqb k 3 || eqb n 0 || leb t time
-
-    end_read : num_at (part 304 42 b) 34 8 ≡ t
-    end_read = num-part b 304 42 34 8 (omega arith) ∙ sym et
-
-    held-not : eqb n 0 || leb t time ≡ true → holds time r.held ≡ None
-    unfolding router_of hold_of
-    held-not h = rw (← en, end_read) (by (eqb n 0) h)
-      where
-        by : (z : Bool) → z || leb t time ≡ true → holds time (cond z None (Some (record { lease = lease_of (part 304 42 b); end = t }))) ≡ None
-        by true h = refl
-        by false h = rw (le-ltb time t (leb-true t time h))
-
-    pub carried_none : carries_none ≡ true → replicate 34 0 ≡ sent_bytes (carries (kind_of k) (holds time r.held))
-    carried_none h = by (eqb k 1) (eqb k 3) (simp or_assoc at h)
-      where
-        by : (x y : Bool) → x || (y || (eqb n 0 || leb t time)) ≡ true
-            → replicate 34 0 ≡ sent_bytes (carries (cond x Solicit (cond y Request (cond (eqb k 5) Renew (cond (eqb k 6) Rebind Release)))) (holds time r.held))
-        by true y h = refl
-        by false true h = refl
-        by false false h = rw (held-not h, carries-none (cond (eqb k 5) Renew (cond (eqb k 6) Rebind Release)))
-
-    pub carried-held : carries_none ≡ false → part 304 34 b ≡ sent_bytes (carries (kind_of k) (holds time r.held))
-    unfolding router_of hold_of hold_bytes part
-    carried-held h =
-        let x = neither (eqb k 1 || eqb k 3 || eqb n 0) (leb t time) h in
-        let y = neither (eqb k 1 || eqb k 3) (eqb n 0) x.0 in
-        let z = neither (eqb k 1) (eqb k 3) y.0 in
-        let l = lease_of (part 304 42 b) in
-        let q : part 303 43 b ≡ 1 ∷ hold_bytes (hold_of (part 304 42 b)) = field_at fields 9 (omega arith) ∙ rw (← en, y.1) in
-        let e : part 304 42 b ≡ lease_bytes l ++ be 8 (num_at (part 304 42 b) 34 8) = inner-rest b 303 1 42 _ q (hold-size (hold_of (part 304 42 b))) in
-        let w : part 304 34 b ≡ lease_bytes l = sym (take-take 34 42 (drop 304 b) (omega arith)) ∙ ap (take 34) e ∙ take_at (lease_bytes l) _ 34 (lease-size l) in
-        rw (← en, y.1, end_read, lt-ltb time t (leb-false t time x.1), z.0, z.1) (w ∙ by (eqb k 5) (eqb k 6))
-      where
-        by : (f g : Bool) → lease_bytes (lease_of (part 304 42 b)) ≡ sent_bytes (carries (cond f Renew (cond g Rebind Release)) (Some (lease_of (part 304 42 b))))
-        by true g = refl
-        by false true = refl
-        by false false = refl
-
   -- ---------------------------------------------------------------- a new exchange
 
-  -- k is its type, s the delegation that it carries, n the number that it takes
-  module _ (k n : ℕ) (s : List ℕ) (sv : served k ≡ true) (en : n ≡ num_at b 32 4) (es : s ≡ sent_bytes (carries (kind_of k) (holds time r.held))) where
+  -- s is the delegation that it carries, n the number that it takes
+  module _ (k : Kind) (n : ℕ) (s : List ℕ) (en : n ≡ num_at b 32 4) (es : s ≡ sent_bytes (carries k (holds time r.held))) where
     abbrev dated : List ℕ
     dated = splice 32 (be 4 ((n + 1) % 2 ^ 24)) (splice 16 (be 8 time) (splice 0 (be 8 time) b))
 
     abbrev open_fields : List (List ℕ)
-    open_fields = set (set (set (set (router_fields r) 0 (be 8 time)) 2 (be 8 time)) 4 (be 4 (number_after r.next))) 10 (exchange_bytes (Some (exchange_for (kind_of k) r time)))
+    open_fields = set (set (set (set (router_fields r) 0 (be 8 time)) 2 (be 8 time)) 4 (be 4 (number_after r.next))) 10 (exchange_bytes (Some (exchange_for k r time)))
 
-    begin-fields : {d : List ℕ} → d ≡ splice 346 (k ∷ s) dated → Fields d open_fields router_sizes
+    begin-fields : {d : List ℕ} → d ≡ splice 346 (type_of k ∷ s) dated → Fields d open_fields router_sizes
     unfolding router_of
     begin-fields e =
-        let x = exchange_for (kind_of k) r time in
+        let x = exchange_for k r time in
         let f0 = field_put fields 0 (be 8 time) (omega arith) (length-be 8 time) refl in
         let f2 = field_put f0 2 (be 8 time) (omega arith) (length-be 8 time) refl in
         let f4 = field_put f2 4 (be 4 (number_after r.next)) (omega arith) (length-be 4 (number_after r.next)) refl in
         field_put f4 10 (exchange_bytes (Some x)) (omega arith) (exchange-size (Some x))
-        (e ∙ (λ j. splice 346 (served-type k sv j ∷ es j) (splice 32 (be 4 ((en j + 1) % 2 ^ 24)) (splice 16 (be 8 time) (splice 0 (be 8 time) b)))))
+        (e ∙ (λ j. splice 346 (type_of k ∷ es j) (splice 32 (be 4 ((en j + 1) % 2 ^ 24)) (splice 16 (be 8 time) (splice 0 (be 8 time) b)))))
 
-    pub begin-kept : {c d : List ℕ} → (k ≡ 8 → ⊥) → c ≡ dated → d ≡ splice 346 (k ∷ s) c → d ≡ router_bytes (begun (kind_of k) r time)
+    pub begin-kept : {c d : List ℕ} → is_release k ≡ false → c ≡ dated → d ≡ splice 346 (type_of k ∷ s) c → d ≡ router_bytes (begun k r time)
     unfolding begun
-    begin-kept h p q = rw (release-if k sv ∙ ne_eqb k 8 h) (fields-router _ (begin-fields (onto 346 (k ∷ s) p q)))
+    begin-kept h p q = rw h (fields-router _ (begin-fields (onto 346 (type_of k ∷ s) p q)))
 
-    pub begin-freed : {c d e : List ℕ} → k ≡ 8 → c ≡ dated → d ≡ splice 346 (k ∷ s) c → e ≡ splice 303 (replicate 43 0) (splice 24 (be 8 time) d) → e ≡ router_bytes (begun (kind_of k) r time)
+    pub begin-freed : {c d e : List ℕ} → is_release k ≡ true → c ≡ dated → d ≡ splice 346 (type_of k ∷ s) c → e ≡ splice 303 (replicate 43 0) (splice 24 (be 8 time) d)
+        → e ≡ router_bytes (begun k r time)
     unfolding begun
     begin-freed h p q u =
-        let f3 = field_put (begin-fields (onto 346 (k ∷ s) p q)) 3 (be 8 time) (omega arith) (length-be 8 time) refl in
-        rw (release-if k sv ∙ eq-eqb k 8 h) (fields-router _ (field_put f3 9 (replicate 43 0) (omega arith) refl u))
+        let f3 = field_put (begin-fields (onto 346 (type_of k ∷ s) p q)) 3 (be 8 time) (omega arith) (length-be 8 time) refl in
+        rw h (fields-router _ (field_put f3 9 (replicate 43 0) (omega arith) refl u))
 
   -- ---------------------------------------------------------------- the open exchange again, or closed
 
-  -- k is its type
-  module _ {k : ℕ} (ek : k ≡ num_at b 346 1) (op : is_open r.exchange ≡ true) where
+  module _ (op : is_open r.exchange ≡ true) where
     abbrev x : Exchange
     x = open_of r.exchange
-
-    open-facts : (Some x ≡ r.exchange) × (is_release x.kind ≡ eqb k 8)
-    open-facts =
-        let t = open-type b r.exchange (field_at fields 10 (omega arith)) op in
-        (t.0, release-type x.kind ∙ ap (λ n. eqb n 8) (sym (ek ∙ t.1)))
 
     again-fields : Fields (splice 0 (be 8 time) b) (set (set (router_fields r) 0 (be 8 time)) 10 (exchange_bytes (Some x))) router_sizes
     again-fields =
         let f = field_put fields 0 (be 8 time) (omega arith) (length-be 8 time) refl in
-        subst (λ o. Fields (splice 0 (be 8 time) b) (set (set (router_fields r) 0 (be 8 time)) 10 (exchange_bytes o)) router_sizes) (sym open-facts.0) f
+        let e = (open-type b r.exchange (field_at fields 10 (omega arith)) op).0 in
+        subst (λ o. Fields (splice 0 (be 8 time) b) (set (set (router_fields r) 0 (be 8 time)) 10 (exchange_bytes o)) router_sizes) (sym e) f
 
-    pub again_kept : {c : List ℕ} → (k ≡ 8 → ⊥) → c ≡ splice 0 (be 8 time) b → c ≡ router_bytes (again r time x)
+    pub again_kept : {c : List ℕ} → is_release x.kind ≡ false → c ≡ splice 0 (be 8 time) b → c ≡ router_bytes (again r time x)
     unfolding again
-    again_kept h e = rw (open-facts.1 ∙ ne_eqb k 8 h) (e ∙ fields-router _ again-fields)
+    again_kept h e = rw h (e ∙ fields-router _ again-fields)
 
-    pub again-freed : {c d : List ℕ} → k ≡ 8 → c ≡ splice 0 (be 8 time) b → d ≡ splice 24 (be 8 time) c → d ≡ router_bytes (again r time x)
+    pub again-freed : {c d : List ℕ} → is_release x.kind ≡ true → c ≡ splice 0 (be 8 time) b → d ≡ splice 24 (be 8 time) c → d ≡ router_bytes (again r time x)
     unfolding again
-    again-freed h p q = rw (open-facts.1 ∙ eq-eqb k 8 h) (fields-router _ (field_put again-fields 3 (be 8 time) (omega arith) (length-be 8 time) (onto 24 (be 8 time) p q)))
+    again-freed h p q = rw h (fields-router _ (field_put again-fields 3 (be 8 time) (omega arith) (length-be 8 time) (onto 24 (be 8 time) p q)))
 
   abbrev finished : List ℕ → List ℕ
   finished c = splice 346 (replicate 35 0) (splice 0 (be 8 time) c)

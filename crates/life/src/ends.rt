@@ -1,8 +1,7 @@
 // The two ends: each operation with its line.
 use crate::speak::{End, Heard, Type};
 use crate::texts::part;
-use rules::Kind;
-use show::outcome;
+use rules::{Kind, Refusal};
 use std::io;
 use std::io::Print;
 
@@ -16,7 +15,7 @@ pub struct BoxEnd<'a, P> {
 impl<'a, P: Print> BoxEnd<'a, P> {
     // Pool 2001:db8:0:aa00::/56, S 56, D 60, preferred 601, valid 900, exclusion on.
     pub fn starts(&mut self, duid: &[u8], time: u64) -> io::Result<()> {
-        let came = outcome(delegator::opening::start(
+        let came = delegator::opening::start(
             &mut self.table,
             0x2001_0db8_0000_aa00,
             0,
@@ -28,7 +27,7 @@ impl<'a, P: Print> BoxEnd<'a, P> {
             true,
             duid,
             time,
-        ));
+        );
         let end = ended(came, duid);
         println!(self.rt; "{time} box starts, DUID of {} bytes: {end}", duid.len())
     }
@@ -41,7 +40,7 @@ impl<'a, P: Print> BoxEnd<'a, P> {
         how: &str,
         room: &'r mut [u8; 512],
     ) -> io::Result<&'r [u8]> {
-        let came = outcome(delegator::handling::handle(&mut self.table, time, msg, room));
+        let came = delegator::handling::handle(&mut self.table, time, msg, room);
         let answer = written(room, came);
         let (heard, end) = (Heard { msg, how }, ended(came, answer));
         println!(self.rt; "{time} box hears: {heard}: {end}")?;
@@ -49,16 +48,16 @@ impl<'a, P: Print> BoxEnd<'a, P> {
     }
 
     pub fn counts(&self, time: u64) -> io::Result<()> {
-        match outcome(delegator::showing::live(&self.table, time)) {
+        match delegator::showing::live(&self.table, time) {
             Ok(n) => println!(self.rt; "{time} box has live: {n}"),
-            Err(no) => println!(self.rt; "{time} box has live: refused {no}"),
+            Err(no) => println!(self.rt; "{time} box has live: refused {}", u64::from(no)),
         }
     }
 
     // The first record, up to a DUID's first ten bytes.
     pub fn shows(&self, time: u64) -> io::Result<()> {
         let mut room = [0u8; 153];
-        let came = outcome(delegator::showing::record_at(&self.table, 0, &mut room));
+        let came = delegator::showing::record_at(&self.table, 0, &mut room);
         let end = End {
             outcome: came,
             text: part(&room, 33),
@@ -77,20 +76,9 @@ pub struct RouterEnd<'a, P> {
 
 impl<'a, P: Print> RouterEnd<'a, P> {
     pub fn starts(&mut self, duid: &[u8], iaid: u32, wanted: u64, time: u64) -> io::Result<()> {
-        let word = requester::opening::start(&mut self.state, duid, iaid, wanted, time);
-        let (n, end) = (duid.len(), ended(outcome(word), duid));
+        let came = requester::opening::start(&mut self.state, duid, iaid, wanted, time);
+        let (n, end) = (duid.len(), ended(came, duid));
         println!(self.rt; "{time} router starts, DUID of {n} bytes, wanted length {wanted}: {end}")
-    }
-
-    fn send(&mut self, kind: Kind, time: u64, room: &mut [u8; 512]) -> Result<usize, u64> {
-        let state = &mut self.state;
-        outcome(match kind {
-            Kind::Solicit => requester::asking::solicit(state, time, room),
-            Kind::Request => requester::asking::request(state, time, room),
-            Kind::Renew => requester::asking::renew(state, time, room),
-            Kind::Rebind => requester::asking::rebind(state, time, room),
-            Kind::Release => requester::asking::release(state, time, room),
-        })
     }
 
     // A message is sent, and returned.
@@ -100,7 +88,7 @@ impl<'a, P: Print> RouterEnd<'a, P> {
         time: u64,
         room: &'r mut [u8; 512],
     ) -> io::Result<&'r [u8]> {
-        let came = self.send(kind, time, room);
+        let came = requester::asking::send(&mut self.state, kind, time, room);
         let sent = written(room, came);
         let (name, end) = (Type::from(kind), ended(came, sent));
         println!(self.rt; "{time} router sends a {name}: {end}")?;
@@ -108,26 +96,26 @@ impl<'a, P: Print> RouterEnd<'a, P> {
     }
 
     pub fn resends<'r>(&mut self, time: u64, room: &'r mut [u8; 512]) -> io::Result<&'r [u8]> {
-        let came = outcome(requester::asking::resend(&mut self.state, time, room));
+        let came = requester::asking::resend(&mut self.state, time, room);
         let sent = written(room, came);
         println!(self.rt; "{time} router sends it again: {}", ended(came, sent))?;
         Ok(sent)
     }
 
     pub fn abandons(&mut self, time: u64) -> io::Result<()> {
-        let came = outcome(requester::asking::abandon(&mut self.state, time));
+        let came = requester::asking::abandon(&mut self.state, time);
         println!(self.rt; "{time} router abandons it: {}", ended(came, b"-"))
     }
 
     pub fn hears(&mut self, time: u64, msg: &[u8], how: &str) -> io::Result<()> {
-        let came = outcome(requester::hearing::receive(&mut self.state, time, msg));
+        let came = requester::hearing::receive(&mut self.state, time, msg);
         let (heard, end) = (Heard { msg, how }, ended(came, msg));
         println!(self.rt; "{time} router hears: {heard}: {end}")
     }
 
     pub fn holds(&self, time: u64) -> io::Result<()> {
         let mut room = [0u8; 42];
-        let came = outcome(requester::showing::held(&self.state, time, &mut room));
+        let came = requester::showing::held(&self.state, time, &mut room);
         let end = End {
             outcome: came,
             text: &room,
@@ -154,7 +142,7 @@ impl<'a, P: Print> RouterEnd<'a, P> {
 }
 
 // A step that has no text is done.
-fn ended(outcome: Result<usize, u64>, text: &[u8]) -> End {
+fn ended(outcome: Result<usize, Refusal>, text: &[u8]) -> End {
     End {
         outcome,
         text,
@@ -163,6 +151,6 @@ fn ended(outcome: Result<usize, u64>, text: &[u8]) -> End {
 }
 
 // What an operation wrote at the front of the room; none if it was refused.
-fn written(room: &[u8; 512], outcome: Result<usize, u64>) -> &[u8] {
+fn written(room: &[u8; 512], outcome: Result<usize, Refusal>) -> &[u8] {
     part(room, outcome.unwrap_or(0))
 }

@@ -1,5 +1,5 @@
 // What the lines are made of.
-use rules::Kind;
+use rules::{Kind, Refusal};
 use show::Hex;
 use std::fmt;
 
@@ -77,7 +77,7 @@ impl fmt::Display for Heard<'_> {
 // How a step ended: the number that refused it, its text, or, where there is none, the word for that.
 #[derive(Clone, Copy)]
 pub struct End<'a> {
-    pub outcome: Result<usize, u64>,
+    pub outcome: Result<usize, Refusal>,
     pub text: &'a [u8],
     pub none: &'a str,
 }
@@ -85,7 +85,7 @@ pub struct End<'a> {
 impl fmt::Display for End<'_> {
     fn fmt<W: fmt::Write>(&self, f: &mut fmt::Formatter<W>) -> fmt::Result {
         match self.outcome {
-            Err(no) => write!(f, "refused {no}"),
+            Err(no) => write!(f, "refused {}", u64::from(no)),
             Ok(0) => write!(f, "{}", self.none),
             Ok(_) => write!(f, "{}", Hex(self.text)),
         }

@@ -1,27 +1,27 @@
 -- What each operation leaves: the word, the state and the room, by the way that code takes.
 use mathlib.Core.Path.{◌≡◌, refl, sym, ap, ◌∙◌}
-use mathlib.Core.Bool.{Bool, true, false, cond, not, ◌&&◌, ◌||◌}
+use mathlib.Core.Bool.{Bool, true, false, cond, not, ◌&&◌, false≢true}
 use mathlib.Core.List.{List, [], ◌∷◌, ◌++◌}
-use Rattle.std.specs.Prelude.{None, Some}
+use Rattle.std.specs.Prelude.{Option, None, Some}
 use Prim.Native.Nat.{ℕ, ◌*◌, ◌≤◌, ◌<◌, ◌^◌}
 use native.Mathlib.Omega.{arith}
-use borrow.Author.Tests.{not-false, ltb-false, leb-true, leb-false, le-leb, lt-leb, lt-ltb, le-ltb}
-use lib.Dec.{eqb, leb, ltb}
+use borrow.Author.Tests.{not-false, ltb-false, leb-true, le-leb, lt-leb, lt-ltb, le-ltb}
+use lib.Dec.{leb, ltb}
 use lib.ListN.{length, take, drop}
-use Rattle.rules.specs.Words.{part, splice, num_at}
-use Rattle.rules.specs.Refusals.{Res, unless, done, refuse, bad_time, little_room}
+use Rattle.rules.specs.Words.{part, splice}
+use Rattle.rules.specs.Refusals.{Res, unless, done, refuse, number_of, bad_time, little_room}
 use Rattle.rules.specs.Message.{print}
 use Rattle.rules.specs.Identity.{Identity, identity, good_duid}
-use Rattle.rules.specs.Router.{Exchange, Router, good_asker, sound_router, query, is_open, exchange_for, begun, again, closed, with_query, open_of, router_send, router_resend, router_abandon}
-use Rattle.rules.specs.RouterBytes.{hold_size, hold_bytes, router_bytes, hold_of, lease_of, router_of, sound_router_bytes}
+use Rattle.rules.specs.Router.{Hold, Exchange, Router, holds, is_held, good_asker, sound_router, query, is_open, exchange_for, begun, again, closed, with_query, open_of, router_send, router_resend, router_abandon}
+use Rattle.rules.specs.RouterBytes.{hold_size, hold_bytes, held_bytes, router_bytes, router_of, sound_router_bytes}
 use Rattle.rules.specs.Lent.{ended, settle, no_text, asked, hold_text, router_started, router_sent, router_resent, router_abandoned, router_shown}
 use Rattle.rules.specs.declared.Kind.{Kind}
-use Rattle.laws.specs.Tests.{both, neither}
+use Rattle.rules.specs.declared.Refusal.{Refusal}
+use Rattle.laws.specs.Tests.{both}
 use Rattle.laws.specs.Every.{Every}
-use Rattle.laws.specs.Refusals.{none-applies, number-refused, unless-made, in-time}
+use Rattle.laws.specs.Refusals.{numbered, none-applies, number-refused, unless-made, in-time}
 use Rattle.laws.specs.Parts.{length_part}
 use Rattle.laws.specs.RouterFields.{hold-size}
-use Rattle.laws.specs.RouterFlat.{num-part}
 use Rattle.laws.specs.RouterRepresent.{inner-rest, router-round, router-bytes-sound, router-sound-bytes}
 use Rattle.laws.specs.RouterChange.{fresh, start-fresh, held_bytes_lem}
 use Rattle.laws.specs.RouterKeeps.{begun-sound, again-sound, open-some}
@@ -80,7 +80,7 @@ module _ (s : Router) (g : sound_router s ≡ true) (x : Exchange) (ex : s.excha
 
 -- ---------------------------------------------------------------- a sending
 
-module _ (k : Kind) (b : List ℕ) (now : ℕ) (out : List ℕ) {n : ℕ} (e : n ≡ by_sending k b now (length out)) where
+module _ (k : Kind) (b : List ℕ) (now : ℕ) (out : List ℕ) where
   abbrev r : Router
   r = router_of b
 
@@ -94,14 +94,14 @@ module _ (k : Kind) (b : List ℕ) (now : ℕ) (out : List ℕ) {n : ℕ} (e : n
   unfolding router_sent router_send
   sent_is = ap (settle router_bytes b out) (router-once b ((1, bad_time r.last now) ∷ (2, little_room (length out)) ∷ (times_tests b now ++ kind_tests k b now)) result)
 
-  pub sent-refused : (n ≡ 0 → ⊥) → ended (n * 65536) b out ≡ router_sent k b now out
+  pub sent-refused : (x : Refusal) → number_of x ≡ by_sending k b now (length out) → ended (number_of x * 65536) b out ≡ router_sent k b now out
   unfolding by_sending
-  sent-refused h = sym (sent_is ∙ ap (settle router_bytes b out) (number-refused ts result e h))
+  sent-refused x e = sym (sent_is ∙ ap (settle router_bytes b out) (number-refused ts result e (numbered x)))
 
-  module _ (z : n ≡ 0) where
+  module _ (e : 0 ≡ by_sending k b now (length out)) where
     passed : Every (λ t. t.1 ≡ false) ts
     unfolding by_sending
-    passed = none-applies ts refl e z
+    passed = none-applies ts refl e refl
 
     pub sent-sound : sound_router_bytes b ≡ true
     sent-sound = not-false _ passed.0
@@ -126,7 +126,7 @@ module _ (k : Kind) (b : List ℕ) (now : ℕ) (out : List ℕ) {n : ℕ} (e : n
 
 -- ---------------------------------------------------------------- a resending
 
-module _ (b : List ℕ) (now : ℕ) (out : List ℕ) {n : ℕ} (e : n ≡ by_resending b now (length out)) where
+module _ (b : List ℕ) (now : ℕ) (out : List ℕ) where
   abbrev x : Exchange
   x = exchange_in (router_of b)
 
@@ -140,14 +140,14 @@ module _ (b : List ℕ) (now : ℕ) (out : List ℕ) {n : ℕ} (e : n ≡ by_res
   unfolding router_resent router_resend
   resent-is = ap (settle router_bytes b out) (router-once b ((1, bad_time (router_of b).last now) ∷ (2, little_room (length out)) ∷ open_tests b) repeated)
 
-  pub resent-refused : (n ≡ 0 → ⊥) → ended (n * 65536) b out ≡ router_resent b now out
+  pub resent-refused : (x : Refusal) → number_of x ≡ by_resending b now (length out) → ended (number_of x * 65536) b out ≡ router_resent b now out
   unfolding by_resending
-  resent-refused h = sym (resent-is ∙ ap (settle router_bytes b out) (number-refused us repeated e h))
+  resent-refused x e = sym (resent-is ∙ ap (settle router_bytes b out) (number-refused us repeated e (numbered x)))
 
-  module _ (z : n ≡ 0) where
+  module _ (e : 0 ≡ by_resending b now (length out)) where
     passed-again : Every (λ t. t.1 ≡ false) us
     unfolding by_resending
-    passed-again = none-applies us refl e z
+    passed-again = none-applies us refl e refl
 
     pub resent-may : (sound_router_bytes b ≡ true) × (is_open (router_of b).exchange ≡ true)
     resent-may = (not-false _ passed-again.0, not-false _ passed-again.1.1.1.0)
@@ -172,7 +172,7 @@ module _ (b : List ℕ) (now : ℕ) (out : List ℕ) {n : ℕ} (e : n ≡ by_res
 
 -- ---------------------------------------------------------------- an abandoning
 
-module _ (b : List ℕ) (now : ℕ) {n : ℕ} (e : n ≡ by_abandoning b now) where
+module _ (b : List ℕ) (now : ℕ) where
   abbrev shut : Res Router
   shut = done (closed (router_of b) now (router_of b).server (router_of b).held)
 
@@ -180,14 +180,14 @@ module _ (b : List ℕ) (now : ℕ) {n : ℕ} (e : n ≡ by_abandoning b now) wh
   unfolding router_abandoned router_abandon
   abandoned-is = ap (λ x. settle router_bytes b [] (no_text x)) (router-once b ((1, bad_time (router_of b).last now) ∷ open_tests b) shut)
 
-  pub abandoned-refused : (n ≡ 0 → ⊥) → ended (n * 65536) b [] ≡ router_abandoned b now
+  pub abandoned-refused : (x : Refusal) → number_of x ≡ by_abandoning b now → ended (number_of x * 65536) b [] ≡ router_abandoned b now
   unfolding by_abandoning
-  abandoned-refused h = sym (abandoned-is ∙ ap (λ x. settle router_bytes b [] (no_text x)) (number-refused (abandoning_tests b now) shut e h))
+  abandoned-refused x e = sym (abandoned-is ∙ ap (λ x. settle router_bytes b [] (no_text x)) (number-refused (abandoning_tests b now) shut e (numbered x)))
 
-  module _ (z : n ≡ 0) where
+  module _ (e : 0 ≡ by_abandoning b now) where
     passed-shut : Every (λ t. t.1 ≡ false) (abandoning_tests b now)
     unfolding by_abandoning
-    passed-shut = none-applies (abandoning_tests b now) refl e z
+    passed-shut = none-applies (abandoning_tests b now) refl e refl
 
     pub abandoned-sound : sound_router_bytes b ≡ true
     abandoned-sound = not-false _ passed-shut.0
@@ -200,7 +200,25 @@ module _ (b : List ℕ) (now : ℕ) {n : ℕ} (e : n ≡ by_abandoning b now) wh
 
 -- ---------------------------------------------------------------- what is held
 
-module _ (b : List ℕ) (now : ℕ) (out : List ℕ) {n : ℕ} (e : n ≡ by_state b now) where
+-- by whether something is held whose end hasn't come
+module _ (b : List ℕ) (now : ℕ) where
+  none-held : (o : Option Hold) → is_held (holds now o) ≡ false → hold_text now o ≡ []
+  none-held None h = refl
+  none-held (Some x) h = by (ltb now x.end) h
+    where
+      by : (t : Bool) → is_held (cond t (Some x.lease) None) ≡ false → cond t (hold_bytes x) [] ≡ []
+      by true h = absurd (false≢true (sym h))
+      by false h = refl
+
+  one-held : (o : Option Hold) → part 303 43 b ≡ held_bytes o → is_held (holds now o) ≡ true → hold_text now o ≡ part 304 42 b
+  one-held None q h = absurd (false≢true h)
+  one-held (Some x) q h = by (ltb now x.end) h
+    where
+      by : (t : Bool) → is_held (cond t (Some x.lease) None) ≡ true → cond t (hold_bytes x) [] ≡ part 304 42 b
+      by true h = sym (inner-rest b 303 1 42 (hold_bytes x) q (hold-size x))
+      by false h = absurd (false≢true h)
+
+module _ (b : List ℕ) (now : ℕ) (out : List ℕ) where
   abbrev text : List ℕ
   text = hold_text now (router_of b).held
 
@@ -211,46 +229,27 @@ module _ (b : List ℕ) (now : ℕ) (out : List ℕ) {n : ℕ} (e : n ≡ by_sta
   unfolding router_shown
   shown-is = ap (asked b out) (router-once b ((1, bad_time (router_of b).last now) ∷ vs) (done text))
 
-  pub shown-refused : (n ≡ 0 → ⊥) → ended (n * 65536) b out ≡ router_shown b now out
-  shown-refused h = sym (shown-is ∙ ap (asked b out) (number-refused (state_tests b now ++ vs) (done text) (state-here b now e vs h) h))
+  pub shown-refused : (x : Refusal) → number_of x ≡ by_state b now → ended (number_of x * 65536) b out ≡ router_shown b now out
+  shown-refused x e = sym (shown-is ∙ ap (asked b out) (number-refused (state_tests b now ++ vs) (done text) (state-here b now e vs (numbered x)) (numbered x)))
 
-  module _ (z : n ≡ 0) where
+  module _ (e : 0 ≡ by_state b now) where
     tested : {t : Bool} → ltb (length out) 42 ≡ t → router_shown b now out ≡ asked b out (cond t (refuse 2) (done text))
-    tested h = let p = state-none b now e z in shown-is ∙ rw (p.0, p.1.0, h)
+    tested h = let p = state-none b now e refl in shown-is ∙ rw (p.0, p.1.0, h)
 
     pub shown-2 : length out < 42 → ended 131072 b out ≡ router_shown b now out
     shown-2 h = sym (tested (lt-ltb (length out) 42 h))
 
-    module _ (room : 42 ≤ length out) {has end : ℕ} (eh : has ≡ num_at b 303 1) (ee : end ≡ num_at b 338 8) where
+    module _ (room : 42 ≤ length out) {x : Bool} (has : x ≡ is_held (holds now (router_of b).held)) where
       shown-text : {l : List ℕ} → text ≡ l → router_shown b now out ≡ ended (length l) b (splice 0 l out)
       shown-text q = tested (le-ltb (length out) 42 room) ∙ ap (λ l. ended (length l) b (splice 0 l out)) q
 
-      end_read : num_at (part 304 42 b) 34 8 ≡ end
-      end_read = num-part b 304 42 34 8 (omega arith) ∙ sym ee
-
-      text-none : eqb has 0 || leb end now ≡ true → text ≡ []
-      unfolding router_of hold_of
-      text-none h = rw (← eh, end_read) (by (eqb has 0) h)
-        where
-          by : (t : Bool) → t || leb end now ≡ true → hold_text now (cond t None (Some (record { lease = lease_of (part 304 42 b); end = end }))) ≡ []
-          by true h = refl
-          by false h = rw (le-ltb now end (leb-true end now h))
-
-      pub shown-none : eqb has 0 || leb end now ≡ true → ended 0 b out ≡ router_shown b now out
+      pub shown-none : x ≡ false → ended 0 b out ≡ router_shown b now out
       unfolding splice
-      shown-none h = sym (shown-text (text-none h))
+      shown-none h = sym (shown-text (none-held b now (router_of b).held (sym has ∙ h)))
 
-      text-held : eqb has 0 || leb end now ≡ false → text ≡ part 304 42 b
-      unfolding router_of hold_of
-      text-held h =
-          let p = neither (eqb has 0) (leb end now) h in
-          let q : part 303 43 b ≡ 1 ∷ hold_bytes (hold_of (part 304 42 b)) = held_bytes_lem b (state-sound b now e z) ∙ rw (← eh, p.0) in
-          let w : part 304 42 b ≡ hold_bytes (hold_of (part 304 42 b)) = inner-rest b 303 1 42 _ q (hold-size (hold_of (part 304 42 b))) in
-          let t : ltb now (num_at (part 304 42 b) 34 8) ≡ true = rw end_read (lt-ltb now end (leb-false end now p.1)) in
-          rw (← eh, p.0, t) (sym w)
-
-      pub shown-held : eqb has 0 || leb end now ≡ false → {d : List ℕ} → d ≡ splice 0 (take 42 (drop 304 b)) out → ended 42 b d ≡ router_shown b now out
+      pub shown-held : x ≡ true → {d : List ℕ} → d ≡ splice 0 (take 42 (drop 304 b)) out → ended 42 b d ≡ router_shown b now out
       unfolding part
       shown-held h q =
-          let l = length_part 304 42 b (omega (arith, state-size b now e z)) in
-          sym (shown-text (text-held h) ∙ rw l (ap (ended 42 b) (sym q)))
+          let l = length_part 304 42 b (omega (arith, state-size b now e refl)) in
+          let p = one-held b now (router_of b).held (held_bytes_lem b (state-sound b now e refl)) (sym has ∙ h) in
+          sym (shown-text p ∙ rw l (ap (ended 42 b) (sym q)))

@@ -1,32 +1,34 @@
 -- The message of the open exchange, part by part as code writes it.
 use mathlib.Core.Path.{◌≡◌, refl, sym, ap, ◌∙◌, subst}
-use mathlib.Core.Bool.{Bool, true, false, cond, not, ◌&&◌, ◌||◌, false≢true}
+use mathlib.Core.Logic.{◌⊎◌, inl, inr}
+use mathlib.Core.Bool.{Bool, true, false, cond, not, ◌||◌, false≢true}
 use mathlib.Core.List.{List, [], ◌∷◌, map}
 use Rattle.std.specs.Prelude.{Option, None, Some}
 use Prim.Native.Nat.{ℕ, ◌+◌, ◌-◌, ◌%◌, ◌≤◌, ◌<◌}
 use native.Mathlib.Omega.{arith}
+use mir.Val.{bool_byte}
+use denote.Enum.Bare.{sameb}
 use lib.Dec.{eqb, leb, lit≤, lit<}
 use lib.ListN.{length, take, drop, replicate, length-take, length-drop}
 use borrow.Author.Tests.{eqb-true, leb-true}
 use Rattle.rules.specs.Words.{all, cons_if, part, splice, num_at}
 use Rattle.rules.specs.Prefix.{Lease}
 use Rattle.rules.specs.Message.{Listed, print}
-use Rattle.rules.specs.Identity.{Duid, kind_of, type_of, identity_rows}
+use Rattle.rules.specs.Identity.{Duid, kind_of, type_of, is_release}
 use Rattle.rules.specs.Router.{Exchange, Router, known, good_server, good_exchange, good_sent, wants_server, lists, servers_of, query, carries, is_open, open_of}
 use Rattle.rules.specs.RouterBytes.{some_if, lease_of, duid_at, exchange_of, router_of}
+use Rattle.rules.specs.contracts.Kind.{the_type}
 use Rattle.rules.specs.declared.Kind.{Kind}
 use Rattle.rules.specs.declared.Kind.TheVariants.{Solicit, Request, Renew, Rebind, Release}
-use Rattle.laws.specs.Tests.{both, both-made, neither}
+use Rattle.laws.specs.Tests.{both, both-made}
 use Rattle.laws.specs.Every.{Every}
 use Rattle.laws.specs.Numbers.{Bytes}
 use Rattle.laws.specs.Bits.{num-zeros}
 use Rattle.laws.specs.Round.{FineListed}
 use Rattle.laws.specs.Sent.{Sendable}
-use Rattle.laws.specs.Fields.{field_at}
 use Rattle.laws.specs.RouterFields.{Sound, sound-facts}
-use Rattle.laws.specs.RouterFlat.{wants, lease-read, duid-short}
-use Rattle.laws.specs.RouterRepresent.{router-sound-bytes, lent-fields, lent_length}
-use Rattle.laws.specs.RouterChange.{release-type, open-type}
+use Rattle.laws.specs.RouterFlat.{lease-read, duid-short}
+use Rattle.laws.specs.RouterRepresent.{router-sound-bytes, lent_length}
 use Rattle.laws.specs.RouterKeeps.{open-some, query-able}
 use Rattle.values.specs.Values.{except_of, lease_of as lease_in, listed_of, lease_encodes, first_listed, ia_of, Able}
 use Rattle.values.specs.declared.IaPrefix.{IaPrefix}
@@ -51,13 +53,13 @@ carried-made b y l ep ea ee ec = rw (ep, ea, ee, ec, lease-read b y 347 34 (omeg
 
 -- ---------------------------------------------------------------- the exchange by its type
 
-wants-type : (k : Kind) → wants_server k ≡ wants (type_of k)
-unfolding identity_rows
-wants-type Solicit = refl
-wants-type Request = refl
-wants-type Renew = refl
-wants-type Rebind = refl
-wants-type Release = refl
+-- the test whether it is a Release
+asks-kind : (k : Kind) → not (sameb the_type k Release) ≡ not (is_release k)
+asks-kind Solicit = refl
+asks-kind Request = refl
+asks-kind Renew = refl
+asks-kind Rebind = refl
+asks-kind Release = refl
 
 module _ (b : List ℕ) (o : Open b) where
   abbrev r : Router
@@ -66,23 +68,20 @@ module _ (b : List ℕ) (o : Open b) where
   abbrev x : Exchange
   x = exchange_in (router_of b)
 
-  pub open-long : length b ≡ 384
-  open-long = lent_length b o.sound
+  pub open_long : length b ≡ 384
+  open_long = lent_length b o.sound
 
   good : Sound (router_of b)
   good = sound-facts (router_of b) (router-sound-bytes b o.sound).0
 
-  type-is : num_at b 346 1 ≡ type_of x.kind
-  type-is = (open-type b r.exchange (field_at (lent-fields b o.sound) 10 (omega arith)) o.has).1
-
-  pub head-made : {k n : ℕ} → k ≡ num_at b 346 1 → n ≡ num_at b 32 4
-      → HeadOf (router_of b) (record { kind = k; number = (n + 16777215) % 16777216; server = eqb k 3 || eqb k 5 || eqb k 8; asks = not (eqb k 8); says = false; status = 0; pd = true })
+  pub head-made : {k : Kind} {n t : ℕ} {w a : Bool} → k ≡ x.kind → n ≡ num_at b 32 4 → t ≡ type_of k → w ≡ wants_server k → a ≡ not (sameb the_type k Release)
+      → HeadOf (router_of b) (record { kind = t; number = (n + 16777215) % 16777216; server = w; asks = a; says = false; status = 0; pd = true })
   unfolding router_of
-  head-made ek en = record {
-    kind = ek ∙ type-is;
+  head-made {k} ek en et ew ea = record {
+    kind = et ∙ ap type_of ek;
     number = ap (λ n. (n + 16777215) % 16777216) en;
-    server = ap wants (ek ∙ type-is) ∙ sym (wants-type x.kind);
-    asks = ap (λ k. not (eqb k 8)) (ek ∙ type-is) ∙ ap not (sym (release-type x.kind));
+    server = ew ∙ ap wants_server ek;
+    asks = ea ∙ asks-kind k ∙ ap (λ k. not (is_release k)) ek;
     says = refl;
     status = refl;
     pd = refl;
@@ -104,47 +103,36 @@ module _ (b : List ℕ) (o : Open b) where
       by true h = absurd (false≢true h)
       by false h = refl
 
-  module _ {k : ℕ} (ek : k ≡ num_at b 346 1) where
-    sent-none : eqb k 1 || eqb k 3 ≡ true → x.sent ≡ None
-    sent-none h = ap (λ y. y.sent) exchange-is ∙ by (eqb n 1) (eqb n 3) (subst (λ j. eqb j 1 || eqb j 3 ≡ true) ek h)
-      where
-        by : (f g : Bool) → f || g ≡ true → carries (cond f Solicit (cond g Request (cond (eqb n 5) Renew (cond (eqb n 6) Rebind Release)))) (Some l) ≡ None
-        by true g h = refl
-        by false true h = refl
-        by false false h = absurd (false≢true h)
+  sent-by : x.sent ≡ carries x.kind (Some (lease_of (part 347 34 b)))
+  sent-by = ap (λ y. y.sent) exchange-is ∙ ap (λ k. carries k (Some l)) (sym (ap (λ y. y.kind) exchange-is))
 
-    sent-some : eqb k 1 || eqb k 3 ≡ false → x.sent ≡ Some (lease_of (part 347 34 b))
-    sent-some h =
-        let q = neither (eqb n 1) (eqb n 3) (subst (λ j. eqb j 1 || eqb j 3 ≡ false) ek h) in
-        ap (λ y. y.sent) exchange-is ∙ rw (q.0, q.1) (by (eqb n 5) (eqb n 6))
-      where
-        by : (f g : Bool) → carries (cond f Renew (cond g Rebind Release)) (Some l) ≡ Some l
-        by true g = refl
-        by false true = refl
-        by false false = refl
+  module _ {k : Kind} (ek : k ≡ x.kind) where
+    sent-none : (k ≡ Solicit) ⊎ (k ≡ Request) → x.sent ≡ None
+    sent-none (inl h) = sent-by ∙ ap (λ k. carries k (Some l)) (sym ek ∙ h)
+    sent-none (inr h) = sent-by ∙ ap (λ k. carries k (Some l)) (sym ek ∙ h)
 
-    pub first-wanted : {y : Listed} → eqb k 1 || eqb k 3 ≡ true → y ≡ first_for r.wanted None → y ≡ first_for r.wanted x.sent
+    sent-some : (k ≡ Renew) ⊎ ((k ≡ Rebind) ⊎ (k ≡ Release)) → x.sent ≡ Some (lease_of (part 347 34 b))
+    sent-some (inl h) = sent-by ∙ ap (λ k. carries k (Some l)) (sym ek ∙ h)
+    sent-some (inr (inl h)) = sent-by ∙ ap (λ k. carries k (Some l)) (sym ek ∙ h)
+    sent-some (inr (inr h)) = sent-by ∙ ap (λ k. carries k (Some l)) (sym ek ∙ h)
+
+    pub first-wanted : {y : Listed} → (k ≡ Solicit) ⊎ (k ≡ Request) → y ≡ first_for r.wanted None → y ≡ first_for r.wanted x.sent
     first-wanted h e = e ∙ ap (first_for r.wanted) (sym (sent-none h))
 
-    pub first-carried : {y : Listed} → eqb k 1 || eqb k 3 ≡ false → y ≡ first_for 0 (Some (lease_of (part 347 34 b))) → y ≡ first_for r.wanted x.sent
+    pub first-carried : {y : Listed} → (k ≡ Renew) ⊎ ((k ≡ Rebind) ⊎ (k ≡ Release)) → y ≡ first_for 0 (Some (lease_of (part 347 34 b))) → y ≡ first_for r.wanted x.sent
     first-carried h e = e ∙ ap (first_for r.wanted) (sym (sent-some h))
 
     -- and how many stand in the message
-    module _ {w : ℕ} (ew : w ≡ num_at b 36 1) where
-      wanted-is : w ≡ r.wanted
-      unfolding router_of
-      wanted-is = ew
+    pub count-wanted : (k ≡ Solicit) ⊎ (k ≡ Request) → {w : ℕ} → w ≡ num_at b 36 1 → bool_byte (not (eqb w 0)) ≡ length (lists r.wanted x.sent)
+    unfolding router_of
+    count-wanted h {w} ew = rw (sent-none h, ← ew) (by (eqb w 0))
+      where
+        by : (z : Bool) → bool_byte (not z) ≡ length (cond z [] (first_for w None ∷ []))
+        by true = refl
+        by false = refl
 
-      counted : (t : Bool) → eqb k 1 || eqb k 3 ≡ t → (z : Bool) → eqb w 0 ≡ z → cond (t && z) 0 1 ≡ length (lists r.wanted x.sent)
-      counted true h true g = rw (sent-none h, ← wanted-is, g)
-      counted true h false g = rw (sent-none h, ← wanted-is, g)
-      counted false h z g = rw (sent-some h)
-
-      pub count_none : (eqb k 1 || eqb k 3) && eqb w 0 ≡ true → 0 ≡ length (lists r.wanted x.sent)
-      count_none h = ap (λ t. cond t 0 1) (sym h) ∙ counted (eqb k 1 || eqb k 3) refl (eqb w 0) refl
-
-      pub count-one : (eqb k 1 || eqb k 3) && eqb w 0 ≡ false → 1 ≡ length (lists r.wanted x.sent)
-      count-one h = ap (λ t. cond t 0 1) (sym h) ∙ counted (eqb k 1 || eqb k 3) refl (eqb w 0) refl
+    pub count-one : (k ≡ Renew) ⊎ ((k ≡ Rebind) ⊎ (k ≡ Release)) → 1 ≡ length (lists r.wanted x.sent)
+    count-one h = rw (sent-some h)
 
   -- ---------------------------------------------------------------- its IA_PD
 
@@ -213,7 +201,7 @@ module _ (b : List ℕ) (o : Open b) where
       by true e g = omega (arith, eqb-true (num_at b 172 1) 0 e)
       by false e g =
           let d = duid_at b 172 in
-          duid-short b y 172 (omega (arith, open-long)) (omega (arith, open-long)) (leb-true (length d) 130 (both (leb 3 (length d)) (leb (length d) 130) g).1)
+          duid-short b y 172 (omega (arith, open_long)) (omega (arith, open_long)) (leb-true (length d) 130 (both (leb 3 (length d)) (leb (length d) 130) g).1)
 
   server-known : not (wants_server x.kind) || known r.server ≡ true
   server-known =
@@ -251,7 +239,7 @@ module _ (b : List ℕ) (o : Open b) where
         }
 
     short : (at c : ℕ) → length (take c (drop at b)) < 65536
-    short at c = let e = length-take c (drop at b) in let f = length-drop at b in omega (arith, open-long)
+    short at c = let e = length-take c (drop at b) in let f = length-drop at b in omega (arith, open_long)
 
     pub put-able : {room : ℕ} → Able d → 344 ≤ room
         → (length client < 65536) × (length server < 65536) × (h.status < 65536) × Able d × (length (print (message_of h client server d)) ≤ room)

@@ -1,35 +1,32 @@
 -- The tests, one after the other as code makes them, and the parts of a judgement.
+use Rattle.std.specs.Prelude.{Option, None, Some, option_map}
+use Rattle.std.specs.Option.{is_some}
 use mathlib.Core.Path.{◌≡◌, refl, sym, ap, ◌∙◌}
-use mathlib.Core.Bool.{Bool, true, false, cond, not, ◌&&◌, ◌||◌}
+use mathlib.Core.Bool.{Bool, true, false, cond, not, ◌||◌}
 use mathlib.Core.List.{List, ◌++◌}
-use Rattle.std.specs.Prelude.{None, Some}
 use Prim.Native.Nat.{ℕ, ◌+◌, ◌≤◌, ◌<◌, ◌^◌}
 use native.Mathlib.Omega.{arith}
-use borrow.Author.Tests.{eq-eqb, ne_eqb, lt-ltb, le-ltb}
-use lib.Dec.{eqb, leb, ltb}
-use Rattle.rules.specs.Words.{part, num_at}
-use Rattle.rules.specs.Identity.{kind_of}
-use Rattle.rules.specs.Router.{Exchange, holds, is_held, allows, too_soon, is_open}
-use Rattle.rules.specs.RouterBytes.{hold_of, duid_at, lease_of, router_of, sound_router_bytes}
+use borrow.Author.Tests.{lt-ltb, le-ltb}
+use lib.Dec.{leb}
+use Rattle.rules.specs.Words.{num_at}
+use Rattle.rules.specs.Refusals.{number_of}
+use Rattle.rules.specs.Router.{Exchange, allows, too_soon, is_open}
+use Rattle.rules.specs.RouterBytes.{router_of, sound_router_bytes}
 use Rattle.rules.specs.declared.Kind.{Kind}
-use Rattle.rules.specs.declared.Kind.TheVariants.{Renew, Rebind, Release}
-use Rattle.laws.specs.Refusals.{number, number-later, number-here}
+use Rattle.rules.specs.declared.Refusal.{Refusal}
+use Rattle.laws.specs.Refusals.{number, numbered, number-later, number-here}
 use Rattle.laws.specs.RouterFields.{sound-facts}
-use Rattle.laws.specs.RouterFlat.{num-part, known-if}
 use Rattle.laws.specs.RouterRepresent.{router-sound-bytes}
 use Rattle.state.specs.Judged.{by_state}
 use Rattle.state.specs.Facts.{state-here, state-later}
 use Rattle.requester.specs.Judged.{room_tests, times_tests, kind_tests, open_tests, by_times, by_sending, by_resending, by_abandoning}
 
--- ---------------------------------------------------------------- 11, 12, 13
+-- ---------------------------------------------------------------- 11, 12
 
-pub open-read : (b : List ℕ) {k : ℕ} → k ≡ num_at b 346 1 → not (eqb k 0) ≡ is_open (router_of b).exchange
-unfolding router_of
-open-read b e = rw e (by (eqb (num_at b 346 1) 0) _)
-  where
-    by : (t : Bool) (x : Exchange) → not t ≡ is_open (cond t None (Some x))
-    by true x = refl
-    by false x = refl
+-- an exchange is open where it has a kind
+pub some-open : (o : Option Exchange) → is_some (option_map (λ x. x.kind) o) ≡ is_open o
+some-open None = refl
+some-open (Some x) = refl
 
 -- a minute after them is a number of the code
 pub times-small : (b : List ℕ) → sound_router_bytes b ≡ true → (num_at b 8 8 < 2 ^ 48) × (num_at b 24 8 < 2 ^ 48)
@@ -56,86 +53,55 @@ module _ (b : List ℕ) (now : ℕ) {x : Bool} (op : x ≡ is_open (router_of b)
     unfolding by_times
     times-0 q = rw (sym op ∙ h, soon-read q)
 
--- what a message of type k needs
-module _ (b : List ℕ) (now k : ℕ) where
-  pub allowed-1 : k ≡ 1 → true ≡ allows (kind_of k) (router_of b) now
-  allowed-1 h = rw (eq-eqb k 1 h)
-
-  module _ (n1 : k ≡ 1 → ⊥) where
-    pub allowed-3 : k ≡ 3 → {n : ℕ} → n ≡ num_at b 172 1 → not (eqb n 0) ≡ allows (kind_of k) (router_of b) now
-    unfolding router_of
-    allowed-3 h e = rw (ne_eqb k 1 n1, eq-eqb k 3 h) (rw e (sym (known-if (num_at b 172 1) (duid_at b 172))))
-
-    module _ (n3 : k ≡ 3 → ⊥) {n t : ℕ} (en : n ≡ num_at b 303 1) (et : t ≡ num_at b 338 8) where
-      held-read : not (eqb n 0) && ltb now t ≡ is_held (holds now (router_of b).held)
-      unfolding router_of hold_of
-      held-read = rw (← en, num-part b 304 42 34 8 (omega arith), ← et) (by (eqb n 0))
-        where
-          by : (z : Bool) → not z && ltb now t ≡ is_held (holds now (cond z None (Some (record { lease = lease_of (part 304 42 b); end = t }))))
-          by true = refl
-          by false = at (ltb now t)
-            where
-              at : (u : Bool) → u ≡ is_held (cond u (Some (lease_of (part 304 42 b))) None)
-              at true = refl
-              at false = refl
-
-      pub allowed-held : not (eqb n 0) && ltb now t ≡ allows (kind_of k) (router_of b) now
-      allowed-held = rw (ne_eqb k 1 n1, ne_eqb k 3 n3) (held-read ∙ by (eqb k 5) (eqb k 6))
-        where
-          by : (f g : Bool) → is_held (holds now (router_of b).held) ≡ allows (cond f Renew (cond g Rebind Release)) (router_of b) now
-          by true g = refl
-          by false true = refl
-          by false false = refl
-
 -- ---------------------------------------------------------------- the parts of a judgement
 
 -- a sending
-module _ (k : Kind) (b : List ℕ) (now room : ℕ) {n : ℕ} (e : n ≡ by_state b now) where
-  pub sending-state : (n ≡ 0 → ⊥) → n ≡ by_sending k b now room
+module _ (k : Kind) (b : List ℕ) (now room : ℕ) where
+  pub sending-state : (x : Refusal) → number_of x ≡ by_state b now → number_of x ≡ by_sending k b now room
   unfolding by_sending
-  sending-state h = state-here b now e (room_tests room ++ (times_tests b now ++ kind_tests k b now)) h
+  sending-state x e = state-here b now e (room_tests room ++ (times_tests b now ++ kind_tests k b now)) (numbered x)
 
-  module _ (z : n ≡ 0) where
+  module _ (e : 0 ≡ by_state b now) where
     sending-later : by_sending k b now room ≡ number (room_tests room ++ (times_tests b now ++ kind_tests k b now))
     unfolding by_sending
-    sending-later = state-later b now e z (room_tests room ++ (times_tests b now ++ kind_tests k b now))
+    sending-later = state-later b now e refl (room_tests room ++ (times_tests b now ++ kind_tests k b now))
 
     pub sending-2 : room < 512 → 2 ≡ by_sending k b now room
     sending-2 h = sym (sending-later ∙ rw (lt-ltb room 512 h))
 
-    module _ (l : 512 ≤ room) {m : ℕ} (f : m ≡ by_times b now) where
+    module _ (l : 512 ≤ room) where
       past : by_sending k b now room ≡ number (times_tests b now ++ kind_tests k b now)
       past = sending-later ∙ rw (le-ltb room 512 l)
 
-      pub sending-times : (m ≡ 0 → ⊥) → m ≡ by_sending k b now room
+      pub sending-times : (x : Refusal) → number_of x ≡ by_times b now → number_of x ≡ by_sending k b now room
       unfolding by_times
-      sending-times h = number-here (times_tests b now) (kind_tests k b now) f h ∙ sym past
+      sending-times x f = number-here (times_tests b now) (kind_tests k b now) f (numbered x) ∙ sym past
 
-      module _ (y : m ≡ 0) {x : Bool} (a : x ≡ allows k (router_of b) now) where
+      module _ (f : 0 ≡ by_times b now) {x : Bool} (a : x ≡ allows k (router_of b) now) where
         sending-last : by_sending k b now room ≡ number (kind_tests k b now)
         unfolding by_times
-        sending-last = past ∙ number-later (times_tests b now) (kind_tests k b now) refl f y
+        sending-last = past ∙ number-later (times_tests b now) (kind_tests k b now) refl f refl
 
-        pub sending-13 : not x ≡ true → 13 ≡ by_sending k b now room
+        pub sending-13 : x ≡ false → 13 ≡ by_sending k b now room
         sending-13 h = sym (sending-last ∙ rw (← a, h))
 
-        pub sending-0 : not x ≡ false → 0 ≡ by_sending k b now room
+        pub sending-0 : x ≡ true → 0 ≡ by_sending k b now room
         sending-0 h = sym (sending-last ∙ rw (← a, h))
 
 -- what needs an open exchange
-module _ (b : List ℕ) (now : ℕ) {n : ℕ} (e : n ≡ by_state b now) where
-  pub abandoning-state : (n ≡ 0 → ⊥) → n ≡ by_abandoning b now
+module _ (b : List ℕ) (now : ℕ) where
+  pub abandoning-state : (x : Refusal) → number_of x ≡ by_state b now → number_of x ≡ by_abandoning b now
   unfolding by_abandoning
-  abandoning-state h = state-here b now e (open_tests b) h
+  abandoning-state x e = state-here b now e (open_tests b) (numbered x)
 
-  pub resending-state : (room : ℕ) → (n ≡ 0 → ⊥) → n ≡ by_resending b now room
+  pub resending-state : (room : ℕ) (x : Refusal) → number_of x ≡ by_state b now → number_of x ≡ by_resending b now room
   unfolding by_resending
-  resending-state room h = state-here b now e (room_tests room ++ open_tests b) h
+  resending-state room x e = state-here b now e (room_tests room ++ open_tests b) (numbered x)
 
-  module _ (z : n ≡ 0) where
+  module _ (e : 0 ≡ by_state b now) where
     pub resending-2 : (room : ℕ) → room < 512 → 2 ≡ by_resending b now room
     unfolding by_resending
-    resending-2 room h = sym (state-later b now e z (room_tests room ++ open_tests b) ∙ rw (lt-ltb room 512 h))
+    resending-2 room h = sym (state-later b now e refl (room_tests room ++ open_tests b) ∙ rw (lt-ltb room 512 h))
 
     module _ {x : Bool} (op : x ≡ is_open (router_of b).exchange) where
       open-number : {y : ℕ} → cond (not x) 13 0 ≡ y → number (open_tests b) ≡ y
@@ -143,8 +109,8 @@ module _ (b : List ℕ) (now : ℕ) {n : ℕ} (e : n ≡ by_state b now) where
 
       pub abandoning-open : {y : ℕ} → cond (not x) 13 0 ≡ y → y ≡ by_abandoning b now
       unfolding by_abandoning
-      abandoning-open h = sym (state-later b now e z (open_tests b) ∙ open-number h)
+      abandoning-open h = sym (state-later b now e refl (open_tests b) ∙ open-number h)
 
       pub resending-open : (room : ℕ) → 512 ≤ room → {y : ℕ} → cond (not x) 13 0 ≡ y → y ≡ by_resending b now room
       unfolding by_resending
-      resending-open room l h = sym (state-later b now e z (room_tests room ++ open_tests b) ∙ rw (le-ltb room 512 l) (open-number h))
+      resending-open room l h = sym (state-later b now e refl (room_tests room ++ open_tests b) ∙ rw (le-ltb room 512 l) (open-number h))

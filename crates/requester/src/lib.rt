@@ -1,7 +1,7 @@
-// The router: its public operations on the lent state. Each answers the word: the refusal's number times 65,536, plus a length.
+// The router: its public operations on the lent state. Each gives the length of what it wrote, or why it refused.
 #![tactic(auto)]
 
-pub mod asking; // asking.rt: the five sendings, resending, abandoning
+pub mod asking; // asking.rt: sending, resending, abandoning
 pub mod hearing; // hearing.rt: receiving
 pub mod judging; // judging.rt: what is refused
 pub mod opening; // opening.rt: start

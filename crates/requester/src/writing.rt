@@ -1,26 +1,49 @@
 // The message of the open exchange, from the state: what is sent first, and again.
+#![tactic(auto, using(crate::proofs::Message::open_long))]
+
 ghost use Rattle.std.specs.Prelude.{◌≡◌, [], ◌≤◌, length};
 ghost use Rattle.rules.specs.Words.{part};
-ghost use Rattle.rules.specs.Router.{lists};
+ghost use Rattle.rules.specs.Router.{wants_server, lists};
 ghost use Rattle.rules.specs.RouterBytes.{lease_of, router_of};
 ghost use Rattle.values.specs.Values.{listed_of, ia_of, Able};
 ghost use Rattle.requester.specs.Written.{Open, exchange_in, HeadOf, first_for, ia_asked, query_of, Put};
 
 use print::message::{Head, write_message};
+use rules::Kind;
+use state::reads::open_kind;
 use values::{IaPrefix, Pd};
+
+// The kind of the open exchange.
+fn kind_of(t: &[u8]) -> Kind
+    requires { Open t.now }
+    ensures { result ≡ (exchange_in (router_of t.now)).kind }
+{
+    open_kind(t).unwrap()
+}
+
+// Whether a message of that kind has a Server ID.
+#[tactic(auto, unfolding(rules::specs::Identity::identity_rows))]
+fn wants_server(kind: Kind) -> bool
+    ensures { result ≡ wants_server kind }
+{
+    match kind {
+        Kind::Solicit | Kind::Rebind => false,
+        Kind::Request | Kind::Renew | Kind::Release => true,
+    }
+}
 
 // Its type and number, and whether it has a Server ID and an Option Request.
 fn head_of(t: &[u8]) -> Head
     requires { Open t.now }
     ensures { HeadOf (router_of t.now) result }
 {
-    let kind = cells::get(t, 346, 1) as u8;
+    let kind = kind_of(t);
     let next = cells::get(t, 32, 4);
     Head {
-        kind,
+        kind: u8::from(kind),
         number: ((next + 0xFF_FFFF) % 0x100_0000) as u32,
-        server: (kind == 3) | (kind == 5) | (kind == 8),
-        asks: kind != 8,
+        server: wants_server(kind),
+        asks: kind != Kind::Release,
         says: false,
         status: 0,
         pd: true,
@@ -68,11 +91,10 @@ fn first_of(t: &[u8]) -> IaPrefix
     requires { Open t.now }
     ensures { listed_of result [] ≡ first_for (router_of t.now).wanted (exchange_in (router_of t.now)).sent }
 {
-    let k = cells::get(t, 346, 1);
-    if (k == 1) | (k == 3) {
-        return wanted(t);
+    match kind_of(t) {
+        Kind::Solicit | Kind::Request => wanted(t),
+        Kind::Renew | Kind::Rebind | Kind::Release => carried(t),
     }
-    carried(t)
 }
 
 // How many stand there: none, where no length is wanted.
@@ -80,11 +102,10 @@ fn count_of(t: &[u8]) -> usize
     requires { Open t.now }
     ensures { result ≡ length (lists (router_of t.now).wanted (exchange_in (router_of t.now)).sent) }
 {
-    let k = cells::get(t, 346, 1);
-    if ((k == 1) | (k == 3)) & (cells::get(t, 36, 1) == 0) {
-        return 0;
+    match kind_of(t) {
+        Kind::Solicit | Kind::Request => usize::from(cells::get(t, 36, 1) != 0),
+        Kind::Renew | Kind::Rebind | Kind::Release => 1,
     }
-    1
 }
 
 // Its IA_PD.

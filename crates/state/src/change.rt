@@ -1,10 +1,15 @@
 // What starting, sending and receiving change in a router's state: each leaves the bytes of the state that the rules name.
+#![tactic(auto, using(laws::specs::RouterRepresent::lent_length))]
+
 ghost use Rattle.std.specs.Prelude.{◌≡◌, true, ◌∷◌, ◌+◌, ◌≤◌, length, replicate, Option};
 ghost use Rattle.rules.specs.Words.{splice, be};
-ghost use Rattle.rules.specs.Identity.{identity, served, kind_of};
+ghost use Rattle.rules.specs.Identity.{identity, type_of};
 ghost use Rattle.rules.specs.Router.{Hold, holds, carries, is_open, begun, again, closed, open_of};
 ghost use Rattle.rules.specs.RouterBytes.{duid_bytes, held_bytes, sent_bytes, router_bytes, router_of, sound_router_bytes};
 ghost use Rattle.laws.specs.RouterChange.{fresh, server_given, stamped};
+
+use crate::reads::{is_held, open_kind};
+use rules::Kind;
 
 // A DUID behind its length, with zeros after it up to 130.
 fn put_duid(t: &mut [u8], at: usize, d: &[u8])
@@ -38,19 +43,26 @@ pub fn start(t: &mut [u8], duid: &[u8], iaid: u32, wanted: u64, time: u64)
     put_duid(t, 41, duid);
 }
 
-// The delegation that a message of that kind carries: the held one while its end hasn't come. None: zeros.
-fn carried(t: &[u8], kind: u8, time: u64) -> [u8; 34]
+// The held delegation while its end hasn't come. None: zeros.
+fn lease(t: &[u8], time: u64) -> [u8; 34]
     requires { sound_router_bytes t.now ≡ true }
-    ensures { result ≡ sent_bytes (carries (kind_of kind) (holds time (router_of t.now).held)) }
+    ensures { result ≡ sent_bytes (holds time (router_of t.now).held) }
 {
-    let mut d = [0u8; 34];
-    let held = cells::get(t, 303, 1);
-    let end = cells::get(t, 338, 8);
-    if (kind == 1) | (kind == 3) | (held == 0) | (end <= time) {
-        return d;
+    if !is_held(t, time) {
+        return [0u8; 34];
     }
-    cells::copy(&mut d, 0, &t[304..338]);
-    d
+    <[u8; 34]>::try_from(&t[304..338]).unwrap()
+}
+
+// The delegation that a message of that kind carries.
+fn carried(t: &[u8], kind: Kind, time: u64) -> [u8; 34]
+    requires { sound_router_bytes t.now ≡ true }
+    ensures { result ≡ sent_bytes (carries kind (holds time (router_of t.now).held)) }
+{
+    match kind {
+        Kind::Solicit | Kind::Request => [0u8; 34],
+        Kind::Renew | Kind::Rebind | Kind::Release => lease(t, time),
+    }
 }
 
 // The exchange's first times, and the next number.
@@ -63,12 +75,12 @@ fn date(t: &mut [u8], time: u64, next: u64)
     cells::put(t, 32, 4, next);
 }
 
-// The open exchange, by its type and the delegation that it sends.
-fn open(t: &mut [u8], kind: u8, sent: [u8; 34])
+// The open exchange, by its kind's type and the delegation that it sends.
+fn open(t: &mut [u8], kind: Kind, sent: [u8; 34])
     requires { length t.old ≡ 384 }
-    ensures { t.new ≡ splice 346 (kind ∷ sent) t.old }
+    ensures { t.new ≡ splice 346 (type_of kind ∷ sent) t.old }
 {
-    cells::put(t, 346, 1, kind as u64);
+    cells::put(t, 346, 1, u64::from(u8::from(kind)));
     cells::copy(t, 347, &sent);
 }
 
@@ -82,18 +94,17 @@ fn free(t: &mut [u8], time: u64)
 }
 
 // A new exchange of that kind.
-pub fn begin(t: &mut [u8], kind: u8, time: u64)
-    requires { (sound_router_bytes t.old ≡ true) × (served kind ≡ true) }
-    ensures { t.new ≡ router_bytes (begun (kind_of kind) (router_of t.old) time) }
+pub fn begin(t: &mut [u8], kind: Kind, time: u64)
+    requires { sound_router_bytes t.old ≡ true }
+    ensures { t.new ≡ router_bytes (begun kind (router_of t.old) time) }
 {
     let sent = carried(t, kind, time);
     let next = (cells::get(t, 32, 4) + 1) % 0x100_0000;
     date(t, time, next);
     open(t, kind, sent);
-    if kind != 8 {
-        return;
+    if kind == Kind::Release {
+        free(t, time);
     }
-    free(t, time);
 }
 
 // The open exchange sent again.
@@ -101,12 +112,11 @@ pub fn again(t: &mut [u8], time: u64)
     requires { (sound_router_bytes t.old ≡ true) × (is_open (router_of t.old).exchange ≡ true) }
     ensures { t.new ≡ router_bytes (again (router_of t.old) time (open_of (router_of t.old).exchange)) }
 {
-    let k = cells::get(t, 346, 1);
+    let kind = open_kind(t);
     cells::put(t, 0, 8, time);
-    if k != 8 {
-        return;
+    if kind == Some(Kind::Release) {
+        cells::put(t, 24, 8, time);
     }
-    cells::put(t, 24, 8, time);
 }
 
 // No exchange open, at a time.
@@ -134,8 +144,7 @@ pub fn accept(t: &mut [u8], time: u64, server: &[u8], held: [u8; 43])
 {
     cells::copy(t, 303, &held);
     finish(t, time);
-    if server.len() == 0 {
-        return;
+    if !server.is_empty() {
+        put_duid(t, 172, server);
     }
-    put_duid(t, 172, server);
 }

@@ -1,4 +1,6 @@
 // What a router holds, in its 43 bytes: as it is kept, or new. Nothing held is 43 zeros.
+#![tactic(auto, using(laws::specs::RouterRepresent::lent_length))]
+
 ghost use Rattle.std.specs.Prelude.{◌≡◌, true};
 ghost use Rattle.rules.specs.Words.{num, splice, be};
 ghost use Rattle.rules.specs.RouterBytes.{held_bytes, router_of, sound_router_bytes};
@@ -9,9 +11,7 @@ pub fn kept(t: &[u8]) -> [u8; 43]
     requires { sound_router_bytes t.now ≡ true }
     ensures { result ≡ held_bytes (router_of t.now).held }
 {
-    let mut d = [0u8; 43];
-    cells::copy(&mut d, 0, &t[303..346]);
-    d
+    <[u8; 43]>::try_from(&t[303..346]).unwrap()
 }
 
 // The excluded prefix and its length.
@@ -33,8 +33,5 @@ pub fn made(p: [u8; 16], a: u8, e: [u8; 16], b: u8, end: u64) -> [u8; 43]
     cells::copy(&mut d, 1, &p);
     cells::put(&mut d, 17, 1, a as u64);
     cells::put(&mut d, 35, 8, end);
-    if b == 0 {
-        return d;
-    }
-    less(d, e, b)
+    if b == 0 { d } else { less(d, e, b) }
 }

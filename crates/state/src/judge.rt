@@ -5,17 +5,17 @@ ghost use Rattle.state.specs.Judged.{by_state};
 
 use rules::Refusal;
 
-// 9, 1: why the state or the time refuses.
+// 9, 1.
 pub fn by_state(t: &[u8], time: u64) -> Result<(), Refusal>
     ensures { refused_by result ≡ by_state t.now time }
 {
-    if t.len() != 384 {
+    let Ok(s) = <&[u8; 384]>::try_from(t) else {
+        return Err(Refusal::Unsound);
+    };
+    if !crate::sound(s) {
         return Err(Refusal::Unsound);
     }
-    if !crate::sound(t) {
-        return Err(Refusal::Unsound);
-    }
-    let last = cells::get(t, 0, 8);
+    let last = cells::get(s, 0, 8);
     if (time < last) | (0x1_0000_0000_0000 <= time) {
         return Err(Refusal::Time);
     }

@@ -4,11 +4,16 @@
 pub mod change; // change.rt: starting, sending, receiving
 pub mod hold; // hold.rt: what is held, in its bytes
 pub mod judge; // judge.rt: what is refused by the state and the time
+pub mod reads; // reads.rt: what a sound state says
 
 ghost use Rattle.std.specs.Prelude.{◌≡◌, ◌+◌, ◌≤◌, ◌<◌, length};
+ghost use Rattle.rules.specs.Words.{num_at};
+ghost use Rattle.rules.specs.Identity.{type_of};
 ghost use Rattle.rules.specs.RouterBytes.{sound_router_bytes};
 ghost use Rattle.laws.specs.Flat.{duid_in};
 ghost use Rattle.laws.specs.RouterFlat.{except_in, lease_in, server_in, held_in, exchange_in, numbers_in};
+
+use rules::Kind;
 
 // The n bytes from `at` are a DUID, and zeros follow up to 130.
 fn good_duid(t: &[u8], at: usize, n: usize) -> bool
@@ -46,8 +51,7 @@ fn good_lease(t: &[u8], at: usize) -> bool
 }
 
 // The times, the transaction number and the wanted length.
-fn good_numbers(t: &[u8]) -> bool
-    requires { length t.now ≡ 384 }
+fn good_numbers(t: &[u8; 384]) -> bool
     ensures { result ≡ numbers_in t.now }
 {
     let wanted = cells::get(t, 36, 1);
@@ -65,8 +69,7 @@ fn good_numbers(t: &[u8]) -> bool
 }
 
 // The server's DUID, or none.
-fn good_server(t: &[u8]) -> bool
-    requires { length t.now ≡ 384 }
+fn good_server(t: &[u8; 384]) -> bool
     ensures { result ≡ server_in t.now }
 {
     let n = cells::get(t, 172, 1) as usize;
@@ -77,8 +80,7 @@ fn good_server(t: &[u8]) -> bool
 }
 
 // The hold, or none. Anything held has a server.
-fn good_held(t: &[u8]) -> bool
-    requires { length t.now ≡ 384 }
+fn good_held(t: &[u8; 384]) -> bool
     ensures { result ≡ held_in t.now }
 {
     let held = cells::get(t, 303, 1);
@@ -93,25 +95,33 @@ fn good_held(t: &[u8]) -> bool
         & ((end < 0x2_0000_0000_0000) | (end == 0xFFFF_FFFF_FFFF_FFFF))
 }
 
-// The exchange, or none. It has the server and the delegation that its type wants.
-fn good_exchange(t: &[u8]) -> bool
-    requires { length t.now ≡ 384 }
+// The open exchange has the server and the delegation that its kind wants.
+fn good_open(t: &[u8; 384], kind: Kind) -> bool
+    requires { num_at t.now 346 1 ≡ type_of kind }
+    ensures { result ≡ exchange_in t.now }
+{
+    let server = cells::get(t, 172, 1) != 0;
+    match kind {
+        Kind::Solicit => cells::all_zero(t, 347, 34),
+        Kind::Request => server & cells::all_zero(t, 347, 34),
+        Kind::Rebind => good_lease(t, 347),
+        Kind::Renew | Kind::Release => server & good_lease(t, 347),
+    }
+}
+
+// The exchange, or none.
+fn good_exchange(t: &[u8; 384]) -> bool
     ensures { result ≡ exchange_in t.now }
 {
     let k = cells::get(t, 346, 1);
-    let server = cells::get(t, 172, 1);
-    if ((k == 3) | (k == 5) | (k == 8)) & (server == 0) {
-        return false;
+    match Kind::try_from(k as u8) {
+        Ok(kind) => good_open(t, kind),
+        Err(_) => (k == 0) & cells::all_zero(t, 347, 34),
     }
-    if (k == 5) | (k == 6) | (k == 8) {
-        return good_lease(t, 347);
-    }
-    ((k == 0) | (k == 1) | (k == 3)) & cells::all_zero(t, 347, 34)
 }
 
 // Whether the state is the representation of a sound one.
-pub fn sound(t: &[u8]) -> bool
-    requires { length t.now ≡ 384 }
+pub fn sound(t: &[u8; 384]) -> bool
     ensures { result ≡ sound_router_bytes t.now }
 {
     let n = cells::get(t, 41, 1) as usize;

@@ -29,10 +29,12 @@ fn exclude(rt: &impl Print, name: &str, p: u128, a: usize, text: &[u8]) -> io::R
 // that refuses it.
 fn write(rt: &impl Print, name: &str, p: u128, a: usize, e: u128, b: usize) -> io::Result<()> {
     let mut room = [0xeeu8; 8];
-    let word = print::lone::write_exclude(&mut room, p.to_be_bytes(), a, e.to_be_bytes(), b);
-    match outcome(word) {
+    match print::lone::write_exclude(&mut room, p.to_be_bytes(), a, e.to_be_bytes(), b) {
         Ok(_) => println!(rt; "{name} writes {}", Hex(&room)),
-        Err(no) => println!(rt; "{name} is not written: {no}, room {}", Hex(&room)),
+        Err(no) => {
+            let no = u64::from(no);
+            println!(rt; "{name} is not written: {no}, room {}", Hex(&room))
+        }
     }
 }
 

@@ -1,12 +1,10 @@
--- `good_exchange`: no server where one is wanted, a delegation that is sent, or none.
-use Rattle.laws.specs.RouterFlat.{exchange-alone, exchange-sends, exchange-bare}
+-- `good_exchange`: by the kind, or none and zeros.
+use Rattle.std.proofs.Common.{sym, ◌∙◌}
+use Rattle.state.proofs.Laws.{type-from, exchange-none}
 use Rattle.state.proofs.good_exchange.Goals as goal
 
-pub returns-then-k-server : goal.returns-then-k-server
-returns-then-k-server c = exchange-alone _ c.get-k.ensures.0 c.get-server.ensures.0 c.if-k-server.true
+pub good_open-requires : goal.good_open-requires
+good_open-requires c = sym c.get-k.ensures.0 ∙ type-from _ (sym c.try_from.ensures ∙ c.in-Ok.is)
 
-pub returns-then-k : goal.returns-then-k
-returns-then-k c = exchange-sends _ c.get-k.ensures.0 c.get-server.ensures.0 c.if-k-server.false c.if-k.true c.good_lease.ensures
-
-pub returns : goal.returns
-returns c = exchange-bare _ c.get-k.ensures.0 c.get-server.ensures.0 c.if-k-server.false c.if-k.false c.all_zero.ensures
+pub returns-in-Err : goal.returns-in-Err
+returns-in-Err c = rw c.all_zero.ensures (exchange-none _ c.get-k.ensures.0 (sym c.try_from.ensures ∙ c.in-Err.is))

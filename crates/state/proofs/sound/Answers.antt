@@ -4,4 +4,4 @@ use Rattle.state.proofs.sound.Goals as goal
 
 pub returns : goal.returns
 unfolding flat_router
-returns c = cc (flat-router c.args.t.now (λ i. (c.type_inv.t i).fits) c.requires)
+returns c = cc (flat-router c.args.t.now c.fits-t c.told-t)

@@ -1,15 +1,21 @@
 -- Judged; then the last time, and the message of the open exchange.
+use Rattle.std.proofs.Common.{rules, ◌≡◌, ap, ◌∙◌}
+use Rattle.std.specs.Prelude.{Err}
+use Rattle.rules.specs.Lent.{ended, word_of}
+use Rattle.state.specs.Facts.{stopped, passed}
 use Rattle.requester.proofs.Acting.{resent-refused, resent-may, resent-open, resent-made}
 use Rattle.requester.proofs.asking.resend.Goals as goal
 
-pub returns-then-n-ne0 : goal.returns-then-n-ne0
-returns-then-n-ne0 c = resent-refused _ _ _ c.by_resending-n.ensures.0 c.if-n-ne0.true
+pub returns-in_err-by_resending : goal.returns-in_err-by_resending
+returns-in_err-by_resending c =
+    let e : c.from_residual.result ≡ Err c.in_err-by_resending.field-0.0 = search rules in
+    ap (λ r. ended (word_of r) c.args.t.now c.args.out.now) e ∙ resent-refused _ _ _ _ (stopped c.by_resending.ensures c.in_err-by_resending.was)
 
 pub again-requires : goal.again-requires
-again-requires c = resent-may _ _ c.args.out.now c.by_resending-n.ensures.0 c.if-n-ne0.false
+again-requires c = resent-may _ _ c.args.out.now (passed c.by_resending.ensures c.in_ok-by_resending.was)
 
 pub put_open-requires : goal.put_open-requires
-put_open-requires c = resent-open _ _ c.args.out.now c.by_resending-n.ensures.0 c.if-n-ne0.false c.again.ensures
+put_open-requires c = resent-open _ _ c.args.out.now (passed c.by_resending.ensures c.in_ok-by_resending.was) c.again.ensures
 
 pub returns : goal.returns
-returns c = resent-made _ _ _ c.by_resending-n.ensures.0 c.if-n-ne0.false c.again.ensures c.put_open.ensures
+returns c = resent-made _ _ _ (passed c.by_resending.ensures c.in_ok-by_resending.was) c.again.ensures c.put_open.ensures

@@ -1,19 +1,9 @@
-use Rattle.std.proofs.Common.{arith}
-use Rattle.requester.proofs.Message.{open-long, first-wanted, first-carried}
+use Rattle.requester.proofs.Message.{first-wanted, first-carried}
 use Rattle.requester.proofs.writing.first_of.Goals as goal
 
--- By the type.
-pub get-k-requires : goal.get-k-requires
-get-k-requires c = (omega (arith, open-long _ c.requires), omega arith)
+-- By the kind.
+pub returns-in-Solicit : goal.returns-in-Solicit
+returns-in-Solicit c = first-wanted _ c.requires c.kind_of.ensures c.in-Solicit.is c.wanted.ensures
 
-pub wanted-requires : goal.wanted-requires
-wanted-requires c = open-long _ c.requires
-
-pub returns-then-k : goal.returns-then-k
-returns-then-k c = first-wanted _ c.requires c.get-k.ensures.0 c.if-k.true c.wanted.ensures
-
-pub carried-requires : goal.carried-requires
-carried-requires c = open-long _ c.requires
-
-pub returns : goal.returns
-returns c = first-carried _ c.requires c.get-k.ensures.0 c.if-k.false c.carried.ensures
+pub returns-in-Renew : goal.returns-in-Renew
+returns-in-Renew c = first-carried _ c.requires c.kind_of.ensures c.in-Renew.is c.carried.ensures

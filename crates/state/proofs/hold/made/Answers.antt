@@ -15,8 +15,8 @@ returns-then-b-eq0 c =
     ) in
     hold-bare c.args.p _ c.args.b _ sixteen.0 c.put.ensures c.copy.ensures c.put-2.ensures c.put-3.ensures c.args.e c.if-b-eq0.true
 
-pub returns : goal.returns
-returns c =
+pub returns-else-b-eq0 : goal.returns-else-b-eq0
+returns-else-b-eq0 c =
     let sixteen : Sixteen c.args.p × Sixteen c.args.e = (
       record { long = search rules; bytes = λ i. (let f : Fits w8 (get_or c.args.p i 0) = search rules in f.fits) },
       record { long = search rules; bytes = λ i. (let f : Fits w8 (get_or c.args.e i 0) = search rules in f.fits) },
