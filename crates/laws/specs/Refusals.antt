@@ -1,5 +1,6 @@
 -- A table of refusals: nothing is refused exactly where every test fails; and what a result tells.
 --   number, refused_by        the number of the first test that applies, or 0; the number with which code refuses, or 0
+--   numbered                  no refusal has the number 0
 --   none-applies              what the number 0 says of the tests
 --   number-here, -later       a table judged part by part
 --   number-refused            what another number says of the result
@@ -10,6 +11,7 @@ use Rattle.std.proofs.Common.{sym, ap, subst, arith, ltb-true, ltb-false, leb-fa
 use Rattle.rules.specs.Words.{all}
 use Rattle.rules.specs.Refusals.{Res, refuse, done, number_of, unless, bad_time}
 use Rattle.rules.specs.declared.Refusal.{Refusal}
+use Rattle.rules.specs.declared.Refusal.TheVariants.{Time, Room, Size, Unserved, Malformed, Identity, Delegation, Silence, Unsound, Settings, Busy, Early, State, Unawaited}
 use Rattle.laws.specs.Tests.{both, neither}
 use Rattle.laws.specs.Every.{Every}
 
@@ -46,6 +48,22 @@ number (r ∷ rs) = cond r.1 r.0 (number rs)
 abbrev pub refused_by : {A : Type 0} → Result A Refusal → ℕ
 refused_by (Ok x) = 0
 refused_by (Err r) = number_of r
+
+pub numbered : (r : Refusal) → number_of r ≡ 0 → ⊥
+numbered Time h = omega arith
+numbered Room h = omega arith
+numbered Size h = omega arith
+numbered Unserved h = omega arith
+numbered Malformed h = omega arith
+numbered Identity h = omega arith
+numbered Delegation h = omega arith
+numbered Silence h = omega arith
+numbered Unsound h = omega arith
+numbered Settings h = omega arith
+numbered Busy h = omega arith
+numbered Early h = omega arith
+numbered State h = omega arith
+numbered Unawaited h = omega arith
 
 -- of a table whose numbers are above 0: where the first that applies is 0, none applies
 pub none-applies : (ts : List (ℕ × Bool)) → all (λ r. ltb 0 r.0) ts ≡ true → {n : ℕ} → n ≡ number ts → n ≡ 0 → Every (λ r. r.1 ≡ false) ts
