@@ -10,7 +10,7 @@ use crate::carry::carry_out;
 use notes::Notes;
 use values::Pd;
 
-pub fn serve(t: &mut [u8], time: u64, msg: &[u8], s: Notes, q: Pd, out: &mut [u8]) -> u64
+pub fn serve(t: &mut [u8], time: u64, msg: &[u8], s: Notes, q: Pd, out: &mut [u8]) -> usize
     requires { Ready t.old time msg.now × (442 ≤ length out.old) × Noted msg.now s × AskedPd msg.now q }
     ensures { ended result t.new out.new ≡ served_on t.old time msg.now out.old }
 {
@@ -18,5 +18,5 @@ pub fn serve(t: &mut [u8], time: u64, msg: &[u8], s: Notes, q: Pd, out: &mut [u8
     let p = decide::decide(t, time, heard::kind_of(msg), client, s.asks, q);
     let n = answer(out, t, msg, client, p, q);
     carry_out(t, p, client, q.iaid);
-    n as u64
+    n
 }

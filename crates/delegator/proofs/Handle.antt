@@ -2,6 +2,7 @@
 use mathlib.Core.Path.{◌≡◌, refl, sym, ap, ◌∙◌}
 use mathlib.Core.Bool.{Bool, true, false, not}
 use mathlib.Core.List.{List, [], ◌∷◌}
+use Rattle.std.specs.Prelude.{Result, Err}
 use Prim.Native.Nat.{ℕ, ◌*◌, ◌<◌, ◌^◌}
 use native.Mathlib.Omega.{arith}
 use borrow.Author.Tests.{not-false, ltb-false}
@@ -15,10 +16,11 @@ use Rattle.rules.specs.Settings.{Settings}
 use Rattle.rules.specs.Table.{Table, sound}
 use Rattle.rules.specs.TableBytes.{settings_of, table_bytes, table_of, sound_bytes}
 use Rattle.rules.specs.Box.{Verdict, offer, return, say, success, silence, serving, table_after, answer_after, wrong_pds, is_silence, box_tests, box_answer, box_handle}
-use Rattle.rules.specs.Lent.{ended, settle, box_handled}
+use Rattle.rules.specs.Lent.{ended, word_of, settle, box_handled}
+use Rattle.rules.specs.declared.Refusal.{Refusal}
 use Rattle.laws.specs.Tests.{neither}
 use Rattle.laws.specs.Every.{Every}
-use Rattle.laws.specs.Refusals.{number, none-applies, number-refused, unless-made}
+use Rattle.laws.specs.Refusals.{number, refused_by, stops, word_refused, none-applies, number-refused, unless-made}
 use Rattle.laws.specs.Round.{FineListed}
 use Rattle.laws.specs.Sent.{GoodVerdict}
 use Rattle.laws.specs.Sound.{Good, good-facts, sound-facts, sound-made}
@@ -66,10 +68,13 @@ module _ (b m : List ℕ) (now room : ℕ) where
   unfolding box_handled box_handle
   handled-is out e = rw e (ap (settle table_bytes b out) (table-once b rest reply))
 
-  module _ {n : ℕ} (e : n ≡ judged b now m room) where
-    pub refused : (n ≡ 0 → ⊥) → (out : List ℕ) → length out ≡ room → ended (n * 65536) b out ≡ box_handled b now m out
-    refused h out l = sym (handled-is out l ∙ ap (settle table_bytes b out) (number-refused tests reply (e ∙ judged-is) h))
+  pub refused : {A : Type 0} {q : Result A Refusal} → refused_by q ≡ judged b now m room → {f : Refusal} {r : Result ℕ Refusal} → q ≡ Err f → r ≡ Err f
+      → (out : List ℕ) → length out ≡ room → ended (word_of r) b out ≡ box_handled b now m out
+  refused e h g out l =
+      ap (λ w. ended w b out) (word_refused h g)
+      ∙ sym (handled-is out l ∙ ap (settle table_bytes b out) (number-refused tests reply (e ∙ judged-is) (stops h)))
 
+  module _ {n : ℕ} (e : n ≡ judged b now m room) where
     module _ (z : n ≡ 0) where
       passed : Every (λ r. r.1 ≡ false) tests
       passed = none-applies tests refl (e ∙ judged-is) z

@@ -1,4 +1,5 @@
-// The box: its public operations on the lent table. Each answers the word: the refusal's number times 65,536, plus a length.
+// The box: its public operations on the lent table. Each answers the length of what it wrote (a count, where that is asked), or
+// why it refused.
 #![tactic(auto)]
 
 pub mod handling; // handling.rt: handle

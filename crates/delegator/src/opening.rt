@@ -1,8 +1,10 @@
 // The box is started: an empty table, with settings that are good.
 ghost use Rattle.std.specs.Prelude.{◌≡◌, []};
 ghost use Rattle.rules.specs.Settings.{good_settings};
-ghost use Rattle.rules.specs.Lent.{ended, box_started};
+ghost use Rattle.rules.specs.Lent.{ended, word_of, box_started};
 ghost use Rattle.delegator.specs.Given.{given};
+
+use rules::Refusal;
 
 // Whether the settings are good: the pool by its halves and its length, S and D, the lifetimes, the box's own DUID.
 fn good_settings(
@@ -43,16 +45,16 @@ pub fn start(
     exclusion: bool,
     own: &[u8],
     time: u64,
-) -> u64
-    ensures { ended result t.new [] ≡ box_started t.old (given high low width shortest standard preferred valid exclusion own.now) time }
+) -> Result<usize, Refusal>
+    ensures { ended (word_of result) t.new [] ≡ box_started t.old (given high low width shortest standard preferred valid exclusion own.now) time }
 {
     if !good_settings(
         high, low, width, shortest, standard, preferred, valid, exclusion, own,
     ) {
-        return 655360;
+        return Err(Refusal::Settings);
     }
     if 0x1_0000_0000_0000 <= time {
-        return 65536;
+        return Err(Refusal::Time);
     }
     leases::empty::start(
         t,
@@ -66,5 +68,5 @@ pub fn start(
         own,
         time,
     );
-    0
+    Ok(0)
 }

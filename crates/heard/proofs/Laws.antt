@@ -1,24 +1,30 @@
 -- Laws that only these proofs need.
-use Rattle.std.specs.Prelude.{None, Option, Some}
+use Rattle.std.specs.Prelude.{None, Option, Some, is_none, IfSome, Result, Ok, Err}
+use Rattle.std.specs.Bool.{then_some}
+use Rattle.std.specs.Result.{result_unwrap_or}
 use mathlib.Core.Path.{◌≡◌, refl, sym, ap, ◌∙◌}
-use mathlib.Core.Bool.{Bool, true, false, cond, not, ◌&&◌, and-true, and_assoc}
+use mathlib.Core.Bool.{Bool, true, false, cond, not, ◌&&◌, ◌||◌, and-true, and_assoc}
 use mathlib.Core.List.{List, [], ◌∷◌, ◌++◌, map, append_assoc, append-nil}
 use Prim.Native.Nat.{ℕ, zero, suc, ◌+◌, ◌-◌, ◌≤◌, ◌<◌}
 use native.Mathlib.Omega.{arith}
 use native.Mathlib.Nat.{add-sub_cancel_left}
 use native.Mathlib.Numerals.{add-one}
-use borrow.Author.Tests.{eq-eqb, ne_eqb, le-leb, lt-leb, lt-ltb, ltb-true, ltb-false}
+use borrow.Author.Tests.{eq-eqb, ne_eqb, le-leb, lt-leb, lt-ltb, ltb-true, ltb-false, leb-true}
 use lib.Dec.{eqb, leb, ltb}
 use lib.ListN.{length, get_or, take, drop, set, length-set, length-map, length-drop, get_or-eq_default}
 use lib.Seq.{take-suc-set, drop-cons, take-length}
 use Rattle.rules.specs.Words.{all, part, same_bytes, num_at}
 use Rattle.rules.specs.Options.{area_of, options, count, nth}
 use Rattle.rules.specs.Message.{listed_at, ia_at, top, read}
-use Rattle.rules.specs.Identity.{Duid, kind_of, identity_rows, row_of, stands, row_holds}
+use Rattle.rules.specs.Identity.{Duid, served, kind_of, kind_from, identity_rows, row_of, stands, row_holds}
 use Rattle.rules.specs.Box.{wrong_pds}
+use Rattle.rules.specs.declared.Kind.{Kind}
 use Rattle.rules.specs.declared.Kind.TheVariants.{Release}
+use Rattle.rules.specs.declared.Refusal.{Refusal}
+use Rattle.rules.specs.declared.Refusal.TheVariants.{Unserved}
 use Rattle.rules.specs.declared.Spot.{Spot}
 use Rattle.rules.specs.Options.{spot}
+use Rattle.laws.specs.Tests.{neither}
 use Rattle.laws.specs.Steps.{Stepped, Stopped, options-here, options-past}
 use Rattle.laws.specs.Parts.{length_part}
 use Rattle.laws.specs.Same.{other_length}
@@ -135,7 +141,7 @@ more-than k n = by (ltb n k) refl
     by true e = rw (lt-leb k n (ltb-true n k e))
     by false e = rw (le-leb k n (ltb-false n k e))
 
-pub few-pds : (m : List ℕ) {p s n : ℕ} → only_of 25 m ≡ Some (spot p s n) → ltb 4 (length (ia_at m (Some (spot 0 s n))).listed) ≡ wrong_pds (read m)
+few-pds : (m : List ℕ) {p s n : ℕ} → only_of 25 m ≡ Some (spot p s n) → ltb 4 (length (ia_at m (Some (spot 0 s n))).listed) ≡ wrong_pds (read m)
 unfolding read
 few-pds m {p} {s} {n} h = rw (only_at 25 m h, ia-place m p s n) (more-than (length (ia_at m (Some (spot 0 s n))).listed) 4)
 
@@ -218,15 +224,33 @@ pd-read m s n d i a b f l = rw (i, a, b, f, l)
 
 -- ---------------------------------------------------------------- the kind
 
-module _ (m : List ℕ) {k : ℕ} (e : k ≡ get_or m 0 0) where
-  pub kind-is : kind_of k ≡ kind_of (read m).kind
-  unfolding read
-  kind-is = ap kind_of e
+-- every type but the four others is told as a Release
+released : (k : ℕ) → result_unwrap_or (kind_from k) Release ≡ kind_of k
+released k = by (served k) refl
+  where
+    by : (b : Bool) → served k ≡ b → result_unwrap_or (cond b (Ok (kind_of k)) (Err Unserved)) Release ≡ kind_of k
+    by true h = refl
+    by false h =
+        let p = neither (eqb k 1 || eqb k 3 || eqb k 5 || eqb k 6) (eqb k 8) h in
+        let q = neither (eqb k 1 || eqb k 3 || eqb k 5) (eqb k 6) p.0 in
+        let r = neither (eqb k 1 || eqb k 3) (eqb k 5) q.0 in
+        let s = neither (eqb k 1) (eqb k 3) r.0 in
+        rw (s.0, s.1, r.1, q.1)
 
-  pub kind-last : (k ≡ 1 → ⊥) → (k ≡ 3 → ⊥) → (k ≡ 5 → ⊥) → (k ≡ 6 → ⊥) → Release ≡ kind_of (read m).kind
-  kind-last a b c d = rw (ne_eqb k 1 a, ne_eqb k 3 b, ne_eqb k 5 c, ne_eqb k 6 d) at kind-is
+pub kind-read : (m : List ℕ) {k : ℕ} {r : Result Kind Refusal} {x : Kind} → k ≡ get_or m 0 0 → r ≡ kind_from k → x ≡ result_unwrap_or r Release → x ≡ kind_of (read m).kind
+unfolding read
+kind-read m {k} e h g = g ∙ ap (λ (q : Result Kind Refusal). result_unwrap_or q Release) h ∙ released k ∙ ap kind_of e
 
 -- ---------------------------------------------------------------- the IA_PD that is asked about
 
-pub pd-asked : (m : List ℕ) {p s n : ℕ} → only_of 25 m ≡ Some (spot p s n) → (d : Pd) → (d.count ≤ 4 → ia_of d ≡ bare_ia (ia_at m (Some (spot 0 s n)))) → ltb 4 d.count ≡ false → AskedPd m d
-pd-asked m h d e f = let g = ltb-false 4 d.count f in record { is = e g ∙ ap bare_ia (sym (pd-is m h)); few = g }
+module _ (m : List ℕ) {p s n : ℕ} (h : only_of 25 m ≡ Some (spot p s n)) (d : Pd) where
+  pub pd-asked : ltb 4 d.count ≡ ltb 4 (length (ia_at m (Some (spot 0 s n))).listed) → (d.count ≤ 4 → ia_of d ≡ bare_ia (ia_at m (Some (spot 0 s n))))
+      → {r : Option Pd} → r ≡ then_some (leb d.count 4) d → (is_none r ≡ wrong_pds (read m)) × IfSome r (λ x. AskedPd m x)
+  pd-asked w e g = rw g (by (leb d.count 4) refl)
+    where
+      wrong : not (leb d.count 4) ≡ wrong_pds (read m)
+      wrong = sym (more-than d.count 4) ∙ w ∙ few-pds m h
+
+      by : (b : Bool) → leb d.count 4 ≡ b → (is_none (then_some b d) ≡ wrong_pds (read m)) × IfSome (then_some b d) (λ x. AskedPd m x)
+      by true q = let few = leb-true d.count 4 q in (sym (ap not q) ∙ wrong, record { is = e few ∙ ap bare_ia (sym (pd-is m h)); few = few })
+      by false q = (sym (ap not q) ∙ wrong, tt)

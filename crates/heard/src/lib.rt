@@ -1,7 +1,7 @@
 // What both sides ask of a message that they got.
 #![tactic(auto)]
 
-ghost use Rattle.std.specs.Prelude.{◌≡◌, true, false, ◌+◌, ◌≤◌, ◌<◌, map, ltb, length};
+ghost use Rattle.std.specs.Prelude.{◌≡◌, true, ◌+◌, ◌≤◌, ◌<◌, map, ltb, length, is_none, IfSome};
 ghost use Rattle.rules.specs.Words.{part, same_bytes};
 ghost use Rattle.rules.specs.Message.{ia_at, read, well_formed};
 ghost use Rattle.rules.specs.Identity.{kind_of, row_holds};
@@ -19,13 +19,6 @@ use values::{IaPrefix, Pd};
 use wire::content::{prefix_at, u32_at};
 use wire::find::{count_of, find};
 use wire::walk::{step_at, u8_at};
-
-// The IA_PD of a message, unless its IA_PDs are wrong.
-#[derive(Clone, Copy)]
-pub struct Question {
-    pub wrong: bool,
-    pub pd: Pd,
-}
 
 // The identity rows, by message type: must one Client ID stand, must one Server ID.
 const ROWS: [[bool; 2]; 9] = [
@@ -197,52 +190,16 @@ pub fn row_holds(msg: &[u8], own: &[u8], s: Notes) -> bool
 pub fn kind_of(msg: &[u8]) -> Kind
     ensures { result ≡ kind_of (read msg.now).kind }
 {
-    let k = u8_at(msg, 0);
-    if k == 1 {
-        return Kind::Solicit;
-    }
-    if k == 3 {
-        return Kind::Request;
-    }
-    if k == 5 {
-        return Kind::Renew;
-    }
-    if k == 6 {
-        return Kind::Rebind;
-    }
-    Kind::Release
+    Kind::try_from(u8_at(msg, 0) as u8).unwrap_or(Kind::Release)
 }
 
-// What stands for the IA_PD of a message that is wrong.
-pub fn no_pd() -> Pd {
-    let none = no_prefix();
-    Pd {
-        iaid: 0,
-        t1: 0,
-        t2: 0,
-        count: 0,
-        prefixes: [none; 5],
-        says: false,
-        status: 0,
-    }
-}
-
-// The IA_PD that a message asks about, or that its IA_PDs are wrong: there isn't exactly one, or it lists more than four prefixes.
-pub fn asked_pd(msg: &[u8], x: Note) -> Question
+// The IA_PD that a message asks about; nothing where its IA_PDs are wrong: there isn't exactly one, or it lists more than four
+// prefixes.
+pub fn asked_pd(msg: &[u8], x: Note) -> Option<Pd>
     requires { (well_formed msg.now ≡ true) × IsNote 25 msg.now x }
-    ensures { (result.wrong ≡ wrong_pds (read msg.now)) × (result.wrong ≡ false → AskedPd msg.now result.pd) }
+    ensures { (is_none result ≡ wrong_pds (read msg.now)) × IfSome result (λ d. AskedPd msg.now d) }
 {
-    match one(msg, x, 25) {
-        Some(o) => {
-            let pd = pd_at(msg, o.start, o.len);
-            Question {
-                wrong: 4 < pd.count,
-                pd,
-            }
-        }
-        None => Question {
-            wrong: true,
-            pd: no_pd(),
-        },
-    }
+    let o = one(msg, x, 25)?;
+    let pd = pd_at(msg, o.start, o.len);
+    (pd.count <= 4).then_some(pd)
 }

@@ -2,16 +2,17 @@
 use mathlib.Core.Path.{◌≡◌, refl, sym, ap, ◌∙◌}
 use mathlib.Core.Bool.{Bool, true, false, cond, not, ◌||◌}
 use mathlib.Core.List.{List, ◌++◌}
-use Rattle.std.specs.Prelude.{Option, None, Some}
+use Rattle.std.specs.Prelude.{Option, None, Some, is_none, IfSome, Result, Ok, Err, IfOk}
+use Rattle.std.specs.Option.{ok_or}
 use Prim.Native.Nat.{ℕ, ◌≤◌, ◌<◌, ◌^◌}
 use native.Mathlib.Omega.{arith}
 use borrow.Author.Tests.{not-false, lt-ltb, le-ltb}
 use lib.Dec.{leb, ltb}
 use lib.ListN.{length, get_or}
 use Rattle.rules.specs.Words.{num_at}
-use Rattle.rules.specs.Refusals.{bad_time, wrong_size}
+use Rattle.rules.specs.Refusals.{number_of, bad_time, wrong_size}
 use Rattle.rules.specs.Message.{read, well_formed}
-use Rattle.rules.specs.Identity.{Duid, kind_of, served, row_holds}
+use Rattle.rules.specs.Identity.{Duid, kind_of, kind_from, served, row_holds}
 use Rattle.rules.specs.Prefix.{Prefix}
 use Rattle.rules.specs.Clock.{Moment}
 use Rattle.rules.specs.Settings.{Settings}
@@ -19,19 +20,21 @@ use Rattle.rules.specs.Table.{Record, is_binding, give_up, current}
 use Rattle.rules.specs.TableBytes.{table_size, settings_of, table_of, sound_bytes}
 use Rattle.rules.specs.Choose.{choose}
 use Rattle.rules.specs.Box.{binding, is_freed, hint_of, no_binding, success, leaves, Asked, serve_solicit, serve_request, serve_renew, serve_release, serve, serving, ia_of as asked_ia, asked_by, wrong_pds, is_silence}
+use Rattle.rules.specs.declared.Refusal.{Refusal}
+use Rattle.rules.specs.declared.Refusal.TheVariants.{Unserved, Delegation}
 use Rattle.rules.specs.declared.Kind.{Kind}
 use Rattle.rules.specs.declared.Kind.TheVariants.{Solicit, Request, Renew, Rebind, Release}
 use Rattle.laws.specs.Tests.{false-true}
 use Rattle.laws.specs.Change.{held}
 use Rattle.laws.specs.Every.{Every}
-use Rattle.laws.specs.Refusals.{number, none-applies, number-here, number-later}
+use Rattle.laws.specs.Refusals.{number, refused_by, none-applies, number-here, number-later}
 use Rattle.values.specs.Values.{ia_of}
 use Rattle.values.specs.declared.Pd.{Pd}
 use Rattle.wire.specs.Client.{client_stretch}
 use Rattle.notes.specs.Noted.{Noted, Heard}
 use Rattle.notes.specs.Facts.{is-noted}
 use Rattle.notes.specs.declared.Notes.{Notes}
-use Rattle.heard.specs.Heard.{bare_ia}
+use Rattle.heard.specs.Heard.{bare_ia, AskedPd}
 use Rattle.plan.specs.Plan.{asked_of}
 use Rattle.judge.specs.Judged.{table_tests, room_tests, form_tests, id_tests, silence_tests, by_table, by_form, by_ids, judged}
 use Rattle.judge.specs.Understood.{Understood, client-is, silent-is}
@@ -65,6 +68,21 @@ module _ (b : List ℕ) (now : ℕ) {x : Bool} (sd : x ≡ sound_bytes b) where
 
 -- ---------------------------------------------------------------- 3, 4, 5
 
+kind-none : (k : ℕ) {f : Refusal} → kind_from k ≡ Err f → (served k ≡ false) × (f ≡ Unserved)
+kind-none k {f} h = by (served k) refl h
+  where
+    by : (b : Bool) → served k ≡ b → cond b (Ok (kind_of k)) (Err Unserved) ≡ Err f → (served k ≡ false) × (f ≡ Unserved)
+    by true e g = let z : ◌≡◌ {A = ℕ} 0 1 = cc in absurd (omega arith)
+    by false e g = (e, cc)
+
+pub kind-told : (m : List ℕ) {k : ℕ} {x : Kind} {q : Result Kind Refusal} → k ≡ get_or m 0 0 → q ≡ kind_from k → q ≡ Ok x → (not (served k) ≡ false) × (x ≡ kind_of (read m).kind)
+unfolding read
+kind-told m {k} {x} e w h = by (served k) refl (sym w ∙ h)
+  where
+    by : (b : Bool) → served k ≡ b → cond b (Ok (kind_of k)) (Err Unserved) ≡ Ok x → (not (served k) ≡ false) × (x ≡ kind_of (get_or m 0 0))
+    by true i g = let y : x ≡ kind_of k = cc in (ap not i, y ∙ ap kind_of e)
+    by false i g = let z : ◌≡◌ {A = ℕ} 0 1 = cc in absurd (omega arith)
+
 module _ (m : List ℕ) where
   pub form-3 : wrong_size m ≡ true → 3 ≡ by_form m
   unfolding by_form
@@ -75,9 +93,10 @@ module _ (m : List ℕ) where
     unfolding read
     kind g = ap (λ x. not (served x)) (sym e) ∙ g
 
-    pub form-4 : not (served k) ≡ true → 4 ≡ by_form m
+    -- f is the refusal of a type that isn't served
+    pub form-4 : {q : Result Kind Refusal} {f : Refusal} → q ≡ kind_from k → q ≡ Err f → number_of f ≡ by_form m
     unfolding by_form
-    form-4 g = rw (h, kind g)
+    form-4 {q} {f} w g = let u = kind-none k (sym w ∙ g) in ap number_of u.1 ∙ rw (h, kind (ap not u.0))
 
     module _ (g : not (served k) ≡ false) {x : Bool} (w : x ≡ well_formed m) where
       pub form-5 : not x ≡ true → 5 ≡ by_form m
@@ -99,14 +118,16 @@ module _ (b m : List ℕ) {o : Duid} (w : o ≡ (settings_of b).own) {x : Bool} 
   unfolding by_ids
   ids-6 h = rw (row_is h)
 
-  module _ (h : not x ≡ false) {y : Bool} (p : y ≡ wrong_pds (read m)) where
-    pub ids-7 : y ≡ true → 7 ≡ by_ids b m
-    unfolding by_ids
-    ids-7 g = rw (row_is h, ← p, g)
-
-    pub ids-0 : y ≡ false → 0 ≡ by_ids b m
-    unfolding by_ids
-    ids-0 g = rw (row_is h, ← p, g)
+  -- what is asked about, if anything is
+  pub ids-asked : not x ≡ false → (f : Option Pd) → (is_none f ≡ wrong_pds (read m)) × IfSome f (λ d. AskedPd m d) → {q : Result Pd Refusal} → q ≡ ok_or f Delegation
+      → (refused_by q ≡ by_ids b m) × IfOk q (λ d. AskedPd m d)
+  unfolding by_ids
+  ids-asked h f p e = rw e (by f p)
+    where
+      by : (f : Option Pd) → (is_none f ≡ wrong_pds (read m)) × IfSome f (λ d. AskedPd m d)
+          → (refused_by (ok_or f Delegation) ≡ number (id_tests b m)) × IfOk (ok_or f Delegation) (λ d. AskedPd m d)
+      by (Some d) p = (rw (row_is h, ← p.0), p.1)
+      by None p = (rw (row_is h, ← p.0), tt)
 
 -- ---------------------------------------------------------------- 8
 

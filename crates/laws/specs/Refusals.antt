@@ -1,15 +1,17 @@
 -- A table of refusals: nothing is refused exactly where every test fails; and what a result tells.
 --   number, refused_by        the number of the first test that applies, or 0; the number with which code refuses, or 0
 --   numbered                  no refusal has the number 0
+--   goes, stops, passed_on    what `Ok` and `Err` say of the number, and a refusal handed on; word_refused: its word for C
 --   none-applies              what the number 0 says of the tests
 --   number-here, -later       a table judged part by part
 --   number-refused            what another number says of the result
 --   in-time                   what the passed test of the time says
 --   nine-once                 the test of the lent bytes, and of what they represent
-use Rattle.std.specs.Prelude.{◌≡◌, refl, Bool, true, false, cond, not, List, [], ◌∷◌, ◌++◌, ℕ, ◌≤◌, ◌<◌, ◌^◌, leb, ltb, Result, Ok, Err}
-use Rattle.std.proofs.Common.{sym, ap, subst, arith, ltb-true, ltb-false, leb-false}
+use Rattle.std.specs.Prelude.{◌≡◌, refl, Bool, true, false, cond, not, List, [], ◌∷◌, ◌++◌, ℕ, ◌≤◌, ◌<◌, ◌^◌, leb, ltb, Result, Ok, Err, ◌*◌}
+use Rattle.std.proofs.Common.{sym, ◌∙◌, ap, subst, arith, ltb-true, ltb-false, leb-false}
 use Rattle.rules.specs.Words.{all}
 use Rattle.rules.specs.Refusals.{Res, refuse, done, number_of, unless, bad_time}
+use Rattle.rules.specs.Lent.{word_of}
 use Rattle.rules.specs.declared.Refusal.{Refusal}
 use Rattle.rules.specs.declared.Refusal.TheVariants.{Time, Room, Size, Unserved, Malformed, Identity, Delegation, Silence, Unsound, Settings, Busy, Early, State, Unawaited}
 use Rattle.laws.specs.Tests.{both, neither}
@@ -64,6 +66,20 @@ numbered Busy h = omega arith
 numbered Early h = omega arith
 numbered State h = omega arith
 numbered Unawaited h = omega arith
+
+pub goes : {A : Type 0} {q : Result A Refusal} {x : A} → q ≡ Ok x → refused_by q ≡ 0
+goes h = ap refused_by h
+
+module _ {A : Type 0} {q : Result A Refusal} {f : Refusal} (h : q ≡ Err f) where
+  pub stops : refused_by q ≡ 0 → ⊥
+  stops z = numbered f (sym (ap refused_by h) ∙ z)
+
+  pub passed_on : {n : ℕ} → ((refused_by q ≡ 0 → ⊥) → refused_by q ≡ n) → number_of f ≡ n
+  passed_on j = sym (ap refused_by h) ∙ j stops
+
+  -- r is the same refusal
+  pub word_refused : {r : Result ℕ Refusal} → r ≡ Err f → word_of r ≡ refused_by q * 65536
+  word_refused g = ap word_of g ∙ sym (ap (λ x. refused_by x * 65536) h)
 
 -- of a table whose numbers are above 0: where the first that applies is 0, none applies
 pub none-applies : (ts : List (ℕ × Bool)) → all (λ r. ltb 0 r.0) ts ≡ true → {n : ℕ} → n ≡ number ts → n ≡ 0 → Every (λ r. r.1 ≡ false) ts

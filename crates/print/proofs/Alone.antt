@@ -2,7 +2,7 @@
 use mathlib.Core.Path.{◌≡◌, refl, ap, sym, ◌∙◌}
 use mathlib.Core.Bool.{Bool, true, false, cond, not, ◌&&◌, ◌||◌}
 use mathlib.Core.List.{List, [], ◌∷◌, ◌++◌, map}
-use Rattle.std.specs.Prelude.{None, Some}
+use Rattle.std.specs.Prelude.{None, Some, Result, Ok, Err}
 use Prim.Native.Nat.{ℕ, ◌+◌, ◌*◌, ◌^◌, ◌≤◌, ◌<◌}
 use native.Mathlib.Omega.{arith}
 use borrow.Author.Tests.{lt-ltb, le-ltb, le-leb, leb-true, ltb-true, ltb-false}
@@ -10,12 +10,14 @@ use lib.Dec.{eqb, leb, ltb}
 use lib.ListN.{length, get_or, take, drop, length-append}
 use lib.Seq.{take_all}
 use Rattle.rules.specs.Words.{all, cons_if, num, be16}
-use Rattle.rules.specs.Refusals.{done, unless}
+use Rattle.rules.specs.Refusals.{done, number_of, unless}
 use Rattle.rules.specs.Prefix.{Prefix, prefix, fits, bytes_for, exclude_bytes, encodable, lease_encodable}
 use Rattle.rules.specs.Options.{option, printed}
 use Rattle.rules.specs.Message.{Ia, name_of, status_item, listed_bytes, ia_bytes}
 use Rattle.rules.specs.Lone.{write, listed_encodes, ia_encodes}
-use Rattle.rules.specs.Lent.{ended, written}
+use Rattle.rules.specs.Lent.{ended, word_of, written}
+use Rattle.rules.specs.declared.Refusal.{Refusal}
+use Rattle.laws.specs.Refusals.{refused_by, numbered}
 use Rattle.laws.specs.Tests.{both}
 use Rattle.laws.specs.Loops.{all_map, all-sub}
 use Rattle.laws.specs.Bits.{Sixteen, sixteen-lt}
@@ -100,14 +102,14 @@ able-few : (able : Bool) (s : List ℕ) → (able ≡ true → length s ≤ 6553
 able-few true s h = le-leb (length s) 65535 (h refl)
 able-few false s h = refl
 
-pub status-able : (k : ℕ) → ltb k 65536 && leb (length (be16 k ++ name_of k)) 65535 ≡ ltb k 65536
+status-able : (k : ℕ) → ltb k 65536 && leb (length (be16 k ++ name_of k)) 65535 ≡ ltb k 65536
 status-able k = able-few (ltb k 65536) (be16 k ++ name_of k) (λ h. omega (arith, name-most k))
 
-pub exclude-able : (p e : Prefix) {t : Bool} → t ≡ encodable p e → encodable p e && leb (length (exclude_bytes p.length e)) 65535 ≡ t
+exclude-able : (p e : Prefix) {t : Bool} → t ≡ encodable p e → encodable p e && leb (length (exclude_bytes p.length e)) 65535 ≡ t
 exclude-able p e q =
     able-few (encodable p e) (exclude_bytes p.length e) (λ h. omega (arith, exclude-length p.length e, (encodes p e h).most)) ∙ sym q
 
-pub prefix-able : (x : IaPrefix) {t : Bool} → t ≡ listed_encodes (listed_of x []) → listed_encodes (listed_of x []) && leb (length (listed_bytes (listed_of x []))) 65535 ≡ t
+prefix-able : (x : IaPrefix) {t : Bool} → t ≡ listed_encodes (listed_of x []) → listed_encodes (listed_of x []) && leb (length (listed_bytes (listed_of x []))) 65535 ≡ t
 prefix-able x q = able-few (listed_encodes (listed_of x [])) (listed_bytes (listed_of x [])) (λ h. omega (arith, listed-few x (encodes-lease x h))) ∙ sym q
 
 ia-few : (d : Pd) → Able d → length (ia_bytes (ia_of d)) ≤ 281
@@ -146,7 +148,7 @@ module _ (d e : Pd) (t : Trimmed d e) {r : Bool} (q : r ≡ all listed_encodes (
     pub pd-free : ia_encodes (ia_of d) ≡ true → Able e
     pd-free h = pd-ready (sym pd-encodes ∙ h)
 
-    pub pd-able : ia_encodes (ia_of d) && leb (length (ia_bytes (ia_of d))) 65535 ≡ r
+    pd-able : ia_encodes (ia_of d) && leb (length (ia_bytes (ia_of d))) 65535 ≡ r
     pd-able = able-few (ia_encodes (ia_of d)) (ia_bytes (ia_of d)) few ∙ pd-encodes
       where
         few : ia_encodes (ia_of d) ≡ true → length (ia_bytes (ia_of d)) ≤ 65535
@@ -154,34 +156,61 @@ module _ (d e : Pd) (t : Trimmed d e) {r : Bool} (q : r ≡ all listed_encodes (
 
 -- ---------------------------------------------------------------- what a writer leaves
 
--- n is the refusal, or 0 for none, of the option of code w and content s, whose values have an encoding if `able`
-pub record Judged (able : Bool) (w : ℕ) (s out : List ℕ) (n : ℕ) : Type 0 where
-  pub is : n ≡ refusal_of (able && leb (length s) 65535) (length (option w s)) (length out)
+-- q judges the option of code w and content s, whose values have an encoding if `able`
+pub record Judged (able : Bool) (w : ℕ) (s out : List ℕ) (q : Result (Unit {0}) Refusal) : Type 0 where
+  pub is : refused_by q ≡ refusal_of (able && leb (length s) 65535) (length (option w s)) (length out)
 
-pub judged : (w : ℕ) (s out : List ℕ) {able t : Bool} {size n : ℕ} → able && leb (length s) 65535 ≡ t → size ≡ length (option w s) → n ≡ refusal_of t size (length out)
-    → Judged able w s out n
-judged w s out q l e = record { is = rw (q, ← l) e }
+judged : (w : ℕ) (s out : List ℕ) {able t : Bool} {size : ℕ} {q : Result (Unit {0}) Refusal} → able && leb (length s) 65535 ≡ t → size ≡ length (option w s)
+    → refused_by q ≡ refusal_of t size (length out) → Judged able w s out q
+judged w s out h l e = record { is = rw (h, ← l) e }
 
-module _ {able : Bool} {w : ℕ} {s out : List ℕ} {n : ℕ} (j : Judged able w s out n) where
-  pub lone-refused : (n ≡ 0 → ⊥) → ended (n * 65536) [] out ≡ written out (write able w s)
-  lone-refused h = by (able && leb (length s) 65535) (ltb (length out) (length (option w s))) j.is
+module _ (out : List ℕ) {q : Result (Unit {0}) Refusal} where
+  pub id-judged : (w : ℕ) (duid : List ℕ) → refused_by q ≡ refusal_of (leb (length duid) 65535) (4 + length duid) (length out) → Judged true w duid out q
+  id-judged w duid e = judged w duid out refl (sym (option-length w duid)) e
+
+  pub request-judged : refused_by q ≡ refusal_of true 6 (length out) → Judged true 6 (be16 67) out q
+  unfolding option
+  request-judged e = judged 6 (be16 67) out refl refl e
+
+  pub status-judged : (k : ℕ) {size : ℕ} → size ≡ length (printed (status_item k ∷ [])) → refused_by q ≡ refusal_of (ltb k 65536) size (length out)
+      → Judged (ltb k 65536) 13 (be16 k ++ name_of k) out q
+  status-judged k l e = judged 13 (be16 k ++ name_of k) out (status-able k) (l ∙ ap length (status-named k k refl)) e
+
+  pub exclude-judged : (p e : Prefix) {t : Bool} {size : ℕ} → t ≡ encodable p e → size ≡ 5 + bytes_for p.length e.length → refused_by q ≡ refusal_of t size (length out)
+      → Judged (encodable p e) 67 (exclude_bytes p.length e) out q
+  exclude-judged p e h l g = judged 67 (exclude_bytes p.length e) out (exclude-able p e h) (l ∙ sym (exclude-size p.length e)) g
+
+  pub prefix-judged : (x : IaPrefix) {t : Bool} {size : ℕ} → t ≡ listed_encodes (listed_of x []) → size ≡ length (prefix_bytes x) → refused_by q ≡ refusal_of t size (length out)
+      → Judged (listed_encodes (listed_of x [])) 26 (listed_bytes (listed_of x [])) out q
+  unfolding prefix_bytes
+  prefix-judged x h l e = judged 26 (listed_bytes (listed_of x [])) out (prefix-able x h) l e
+
+  -- d, trimmed to f
+  pub pd-judged : (d f : Pd) (t : Trimmed d f) {r : Bool} {size : ℕ} → r ≡ all listed_encodes (first_listed f.count f.prefixes) && ltb f.status 65536 → size ≡ length (option 25 (ia_bytes (ia_of f)))
+      → d.iaid < 2 ^ 32 → d.t1 < 2 ^ 32 → d.t2 < 2 ^ 32 → refused_by q ≡ refusal_of r size (length out) → Judged (ia_encodes (ia_of d)) 25 (ia_bytes (ia_of d)) out q
+  pd-judged d f t h l x y z e =
+      judged 25 (ia_bytes (ia_of d)) out (pd-able d f t h x y z) (l ∙ ap (λ (i : Ia). length (option 25 (ia_bytes i))) t.same) e
+
+module _ {able : Bool} {w : ℕ} {s out : List ℕ} {q : Result (Unit {0}) Refusal} (j : Judged able w s out q) where
+  pub lone-refused : {f : Refusal} {r : Result ℕ Refusal} → q ≡ Err f → r ≡ Err f → ended (word_of r) [] out ≡ written out (write able w s)
+  lone-refused {f} h g = rw g (by (able && leb (length s) 65535) (ltb (length out) (length (option w s))) (rw h at j.is))
     where
-      by : (a b : Bool) → n ≡ cond (not a) 5 (cond b 2 0) → ended (n * 65536) [] out ≡ written out (λ room. unless ((5, not a) ∷ (2, b) ∷ []) (done (option w s)))
-      by false b f = rw f
-      by true true f = rw f
-      by true false f = absurd (h f)
+      by : (a b : Bool) → number_of f ≡ cond (not a) 5 (cond b 2 0) → ended (number_of f * 65536) [] out ≡ written out (λ room. unless ((5, not a) ∷ (2, b) ∷ []) (done (option w s)))
+      by false b e = rw e
+      by true true e = rw e
+      by true false e = absurd (numbered f e)
 
   -- what is not refused has an encoding, isn't too long and has room
-  pub lone-able : n ≡ 0 → (able ≡ true) × (length s ≤ 65535) × (length (option w s) ≤ length out)
-  lone-able h = by (able && leb (length s) 65535) (ltb (length out) (length (option w s))) refl refl j.is
+  pub lone-able : {u : Unit {0}} → q ≡ Ok u → (able ≡ true) × (length s ≤ 65535) × (length (option w s) ≤ length out)
+  lone-able h = by (able && leb (length s) 65535) (ltb (length out) (length (option w s))) refl refl (rw h at j.is)
     where
-      by : (a b : Bool) → able && leb (length s) 65535 ≡ a → ltb (length out) (length (option w s)) ≡ b → n ≡ cond (not a) 5 (cond b 2 0)
+      by : (a b : Bool) → able && leb (length s) 65535 ≡ a → ltb (length out) (length (option w s)) ≡ b → ◌≡◌ {A = ℕ} 0 (cond (not a) 5 (cond b 2 0))
           → (able ≡ true) × (length s ≤ 65535) × (length (option w s) ≤ length out)
       by false b p r f = absurd (omega arith)
       by true true p r f = absurd (omega arith)
-      by true false p r f = let q = both able (leb (length s) 65535) p in (q.0, leb-true (length s) 65535 q.1, ltb-false (length out) (length (option w s)) r)
+      by true false p r f = let a = both able (leb (length s) 65535) p in (a.0, leb-true (length s) 65535 a.1, ltb-false (length out) (length (option w s)) r)
 
-  pub lone-written : {r : ℕ} {f : List ℕ} → n ≡ 0 → Wrote 0 (option w s) r out f → ended r [] f ≡ written out (write able w s)
+  pub lone-written : {u : Unit {0}} {n : ℕ} {f : List ℕ} → q ≡ Ok u → Wrote 0 (option w s) n out f → ended n [] f ≡ written out (write able w s)
   lone-written h p =
       let a = lone-able h in
       rw (a.0, le-leb (length s) 65535 a.1, le-ltb (length out) (length (option w s)) a.2, (wrote-whole p).0, (wrote-whole p).1)

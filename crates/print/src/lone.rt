@@ -1,10 +1,11 @@
-// The public writers of one option that stands alone, of any values and into any room. The word is the refusal's number times
-// 65,536, plus the length of what was written; a refusal writes nothing.
-ghost use Rattle.std.specs.Prelude.{◌≡◌, [], ◌<◌};
+// The public writers of one option that stands alone, of any values and into any room. Each answers the length of what was
+// written; a refusal writes nothing.
+ghost use Rattle.std.specs.Prelude.{◌≡◌, []};
 ghost use Rattle.rules.specs.Words.{num};
 ghost use Rattle.rules.specs.Prefix.{prefix};
 ghost use Rattle.rules.specs.Lone.{write_id, write_request, write_status, write_exclude, write_prefix, write_pd};
-ghost use Rattle.rules.specs.Lent.{ended, written};
+ghost use Rattle.rules.specs.Lent.{ended, word_of, written};
+ghost use Rattle.laws.specs.Refusals.{refused_by};
 ghost use Rattle.values.specs.Values.{listed_of, ia_of};
 ghost use Rattle.print.specs.Lone.{refusal_of};
 
@@ -13,84 +14,73 @@ use crate::message::put_asks;
 use crate::pd::{put_exclude, put_pd, put_prefix};
 use crate::put::{put_option, put_status};
 use crate::size::{exclude_size, pd_size, prefix_size, status_size};
+use rules::Refusal;
 use values::{IaPrefix, Pd};
 
-// 5 for values that have no encoding, then 2 for too little room; 0 for neither.
-fn refusal(able: bool, size: usize, room: usize) -> u64
-    ensures { (result ≡ refusal_of able size room) × (result < 6) }
+// 5 for values that have no encoding, then 2 for too little room.
+fn refusal(able: bool, size: usize, room: usize) -> Result<(), Refusal>
+    ensures { refused_by result ≡ refusal_of able size room }
 {
     if !able {
-        return 5;
+        return Err(Refusal::Malformed);
     }
     if room < size {
-        return 2;
+        return Err(Refusal::Room);
     }
-    0
+    Ok(())
 }
 
 // A Client ID or a Server ID.
-pub fn write_id(out: &mut [u8], code: u16, duid: &[u8]) -> u64
-    ensures { ended result [] out.new ≡ written out.old (write_id code duid.now) }
+pub fn write_id(out: &mut [u8], code: u16, duid: &[u8]) -> Result<usize, Refusal>
+    ensures { ended (word_of result) [] out.new ≡ written out.old (write_id code duid.now) }
 {
-    let n = refusal(duid.len() <= 65535, 4 + duid.len(), out.len());
-    if n != 0 {
-        return n * 65536;
-    }
-    put_option(out, 0, code as usize, duid) as u64
+    refusal(duid.len() <= 65535, 4 + duid.len(), out.len())?;
+    Ok(put_option(out, 0, code as usize, duid))
 }
 
-pub fn write_request(out: &mut [u8]) -> u64
-    ensures { ended result [] out.new ≡ written out.old write_request }
+pub fn write_request(out: &mut [u8]) -> Result<usize, Refusal>
+    ensures { ended (word_of result) [] out.new ≡ written out.old write_request }
 {
-    let n = refusal(true, 6, out.len());
-    if n != 0 {
-        return n * 65536;
-    }
-    put_asks(out, 0, true) as u64
+    refusal(true, 6, out.len())?;
+    Ok(put_asks(out, 0, true))
 }
 
-pub fn write_status(out: &mut [u8], k: usize) -> u64
-    ensures { ended result [] out.new ≡ written out.old (write_status k) }
+pub fn write_status(out: &mut [u8], k: usize) -> Result<usize, Refusal>
+    ensures { ended (word_of result) [] out.new ≡ written out.old (write_status k) }
 {
-    let n = refusal(k < 65536, status_size(k), out.len());
-    if n != 0 {
-        return n * 65536;
-    }
-    put_status(out, 0, k) as u64
+    refusal(k < 65536, status_size(k), out.len())?;
+    Ok(put_status(out, 0, k))
 }
 
 // The PD Exclude for e of length b inside p of length a.
-pub fn write_exclude(out: &mut [u8], p: [u8; 16], a: usize, e: [u8; 16], b: usize) -> u64
-    ensures { ended result [] out.new ≡ written out.old (write_exclude (prefix (num p) a) (prefix (num e) b)) }
+pub fn write_exclude(
+    out: &mut [u8],
+    p: [u8; 16],
+    a: usize,
+    e: [u8; 16],
+    b: usize,
+) -> Result<usize, Refusal>
+    ensures { ended (word_of result) [] out.new ≡ written out.old (write_exclude (prefix (num p) a) (prefix (num e) b)) }
 {
-    let n = refusal(
+    refusal(
         prefix::exclude::encodable(p, a, e, b),
         exclude_size(a, b),
         out.len(),
-    );
-    if n != 0 {
-        return n * 65536;
-    }
-    put_exclude(out, 0, a, e, b) as u64
+    )?;
+    Ok(put_exclude(out, 0, a, e, b))
 }
 
-pub fn write_prefix(out: &mut [u8], x: IaPrefix) -> u64
-    ensures { ended result [] out.new ≡ written out.old (write_prefix (listed_of x [])) }
+pub fn write_prefix(out: &mut [u8], x: IaPrefix) -> Result<usize, Refusal>
+    ensures { ended (word_of result) [] out.new ≡ written out.old (write_prefix (listed_of x [])) }
 {
-    let n = refusal(encodes(x), prefix_size(x), out.len());
-    if n != 0 {
-        return n * 65536;
-    }
-    put_prefix(out, 0, x) as u64
+    refusal(encodes(x), prefix_size(x), out.len())?;
+    Ok(put_prefix(out, 0, x))
 }
 
-pub fn write_pd(out: &mut [u8], d: Pd) -> u64
-    ensures { ended result [] out.new ≡ written out.old (write_pd (ia_of d)) }
+pub fn write_pd(out: &mut [u8], d: Pd) -> Result<usize, Refusal>
+    ensures { ended (word_of result) [] out.new ≡ written out.old (write_pd (ia_of d)) }
 {
     let t = trimmed(d);
-    let n = refusal(pd_encodes(t), pd_size(t), out.len());
-    if n != 0 {
-        return n * 65536;
-    }
-    put_pd(out, 0, t) as u64
+    refusal(pd_encodes(t), pd_size(t), out.len())?;
+    Ok(put_pd(out, 0, t))
 }

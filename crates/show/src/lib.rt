@@ -1,7 +1,7 @@
-// What the programs print: bytes in hexadecimal, and an operation's word taken apart.
+// What the programs print: bytes in hexadecimal.
 #![tactic(auto)]
 
-ghost use Rattle.std.specs.Prelude.{◌≡◌, ◌/◌, ◌<◌, ◌≤◌, MatchResult, Some};
+ghost use Rattle.std.specs.Prelude.{Some};
 ghost use Rattle.show.specs.Text.{hex_text};
 
 use std::fmt;
@@ -18,16 +18,5 @@ impl fmt::Display for Hex<'_> {
             write!(f, "{b:02x}")?;
         }
         Ok(())
-    }
-}
-
-// The word that an operation answers, taken apart: the length of what it wrote, or the number that refused it.
-pub fn outcome(word: u64) -> Result<usize, u64>
-    ensures { MatchResult result (λ n. (n ≡ word) × (n < 65536)) (λ no. (no ≡ word / 65536) × (65536 ≤ word)) }
-{
-    if word < 65536 {
-        Ok(word as usize)
-    } else {
-        Err(word / 65536)
     }
 }

@@ -1,16 +1,23 @@
 -- A refusal, or the table without ended records served.
-use Rattle.std.proofs.Common.{refl, ◌∙◌, arith}
+use Rattle.std.proofs.Common.{rules, ◌≡◌, Err, refl, ◌∙◌, arith}
+use Rattle.laws.specs.Refusals.{goes}
 use Rattle.delegator.proofs.Handle.{refused, is-sound, is-accepted, is-ready, has-notes, is-handled}
 use Rattle.delegator.proofs.handling.handle.Goals as goal
 
-pub returns-then-j-ne0 : goal.returns-then-j-ne0
-returns-then-j-ne0 c = refused _ _ _ _ c.judge-j.ensures.0 c.if-j-ne0.true _ refl
+pub returns-in_err-pd : goal.returns-in_err-pd
+returns-in_err-pd c =
+    let e : c.from_residual.result ≡ Err c.in_err-pd.field-0.0 = search rules in
+    refused _ _ _ _ c.judge.ensures.0 c.in_err-pd.was e _ refl
 
 pub tidy-requires : goal.tidy-requires
-tidy-requires c = is-sound _ _ _ _ c.judge-j.ensures.0 c.if-j-ne0.false
+tidy-requires c = is-sound _ _ _ _ c.judge.ensures.0 (goes c.in_ok-pd.was)
 
 pub serve-requires : goal.serve-requires
-serve-requires c = (is-ready _ _ _ _ c.judge-j.ensures.0 c.if-j-ne0.false c.tidy.ensures, omega (arith, (is-accepted _ _ _ _ c.judge-j.ensures.0 c.if-j-ne0.false).roomy), has-notes _ _ _ _ c.judge-j.ensures.0 c.if-j-ne0.false c.tidy.ensures _ c.notes_of-s.ensures, c.judge-j.ensures.2 c.if-j-ne0.false)
+serve-requires c =
+    (is-ready _ _ _ _ c.judge.ensures.0 (goes c.in_ok-pd.was) c.tidy.ensures,
+    omega (arith, (is-accepted _ _ _ _ c.judge.ensures.0 (goes c.in_ok-pd.was)).roomy),
+    has-notes _ _ _ _ c.judge.ensures.0 (goes c.in_ok-pd.was) c.tidy.ensures _ c.notes_of-s.ensures,
+    c.in_ok-pd.ensures.1)
 
 pub returns : goal.returns
-returns c = c.serve.ensures ∙ is-handled _ _ _ _ c.judge-j.ensures.0 c.if-j-ne0.false c.tidy.ensures _ refl
+returns c = c.serve.ensures ∙ is-handled _ _ _ _ c.judge.ensures.0 (goes c.in_ok-pd.was) c.tidy.ensures _ refl

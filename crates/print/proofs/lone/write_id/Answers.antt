@@ -1,25 +1,18 @@
 -- Any DUID of at most 65,535 bytes.
-use Rattle.std.proofs.Common.{refl, sym, true}
-use borrow.Author.Rules.{rules}
+use Rattle.std.proofs.Common.{rules, ◌≡◌, Err}
 use Rattle.rules.specs.Lone.{write_id}
-use Rattle.laws.specs.Stands.{option-length}
-use Rattle.print.proofs.Alone.{Judged, judged, lone-refused, lone-able, lone-written}
+use Rattle.print.proofs.Alone.{id-judged, lone-refused, lone-able, lone-written}
 use Rattle.print.proofs.lone.write_id.Goals as goal
 
-pub returns-then-n-ne0 : goal.returns-then-n-ne0
+pub returns-in_err-refusal : goal.returns-in_err-refusal
 unfolding write_id
-returns-then-n-ne0 c =
-    let judge : Judged true c.args.code c.args.duid.now c.args.out.now c.refusal-n.result = judged c.args.code c.args.duid.now c.args.out.now refl (sym (option-length c.args.code c.args.duid.now)) c.refusal-n.ensures.0 in
-    lone-refused judge c.if-n-ne0.true
+returns-in_err-refusal c =
+    let e : c.from_residual.result ≡ Err c.in_err-refusal.field-0.0 = search rules in
+    lone-refused (id-judged c.args.out.now c.args.code c.args.duid.now c.refusal.ensures) c.in_err-refusal.was e
 
 pub put_option-requires : goal.put_option-requires
-put_option-requires c =
-    let judge : Judged true c.args.code c.args.duid.now c.args.out.now c.refusal-n.result = judged c.args.code c.args.duid.now c.args.out.now refl (sym (option-length c.args.code c.args.duid.now)) c.refusal-n.ensures.0 in
-    let a = lone-able judge c.if-n-ne0.false in search rules
+put_option-requires c = let a = lone-able (id-judged c.args.out.now c.args.code c.args.duid.now c.refusal.ensures) c.in_ok-refusal.was in search rules
 
 pub returns : goal.returns
 unfolding write_id
-returns c =
-    let judge : Judged true c.args.code c.args.duid.now c.args.out.now c.refusal-n.result = judged c.args.code c.args.duid.now c.args.out.now refl (sym (option-length c.args.code c.args.duid.now)) c.refusal-n.ensures.0 in
-    lone-written judge c.if-n-ne0.false
-    c.put_option.ensures
+returns c = lone-written (id-judged c.args.out.now c.args.code c.args.duid.now c.refusal.ensures) c.in_ok-refusal.was c.put_option.ensures
