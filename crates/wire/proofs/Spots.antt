@@ -22,7 +22,7 @@ stops m at e q (inl h) = ended m at e (sym q ∙ h)
 stops m at e q (inr h) = broke m at e (sym q ∙ h.1)
 
 module _ (w : ℕ) where
-  options-there : (a : Area) → options w a ≡ map Some (there (options w a))
+  pub options-there : (a : Area) → options w a ≡ map Some (there (options w a))
   unfolding options
   options-there over = refl
   options-there (stop p) = refl
