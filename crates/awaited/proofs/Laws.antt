@@ -2,15 +2,15 @@
 use mathlib.Core.Path.{◌≡◌, refl, sym, ap, ◌∙◌}
 use mathlib.Core.Bool.{Bool, true, false, cond, not, ◌&&◌, ◌||◌, and-true, and_assoc, or-false}
 use mathlib.Core.List.{List, map}
-use Rattle.std.specs.Prelude.{None, Some, Option}
-use Prim.Native.Nat.{ℕ, ◌+◌, ◌-◌, ◌%◌, ◌≤◌, ◌<◌}
+use Rattle.std.specs.Prelude.{None, Some}
+use Prim.Native.Nat.{ℕ, ◌+◌, ◌-◌, ◌%◌, ◌≤◌}
 use native.Mathlib.Omega.{arith}
 use native.Mathlib.Nat.{add-sub_cancel_left}
 use borrow.Author.Tests.{ne_eqb, eqb-true, eqb-false, leb-true, ltb-false, not-true, not-false}
 use lib.Dec.{eqb, leb, ltb}
 use lib.ListN.{length, get_or, take, drop, length-map}
 use Rattle.rules.specs.Words.{all, any, part, same_bytes, num_at}
-use Rattle.rules.specs.Options.{area_of, options, count, nth}
+use Rattle.rules.specs.Options.{Area, area_of, options, count}
 use Rattle.rules.specs.Refusals.{wrong_size}
 use Rattle.rules.specs.Message.{Message, status_at, listed_at, ia_at, top, read, well_formed}
 use Rattle.rules.specs.Identity.{Duid, good_duid, served, kind_of, type_of, answer_type, is_release, identity_rows, stands}
@@ -25,14 +25,11 @@ use Rattle.laws.specs.Parts.{length_part}
 use Rattle.laws.specs.Same.{same_bool}
 use Rattle.laws.specs.Kinds.{served-type, bytes-true, bytes-refl}
 use Rattle.laws.specs.Same.{other_length}
-use Rattle.laws.specs.Walk.{nth_inside}
 use Rattle.laws.specs.Steps.{any-map}
-use Rattle.laws.specs.Formed.{ia-place}
-use Rattle.laws.specs.Scan.{drop-turn, drop-end}
 use Rattle.laws.specs.RouterChange.{release-type}
 use Rattle.heard.specs.Heard.{only_of}
 use Rattle.heard.specs.Facts.{only_at, only-nothing}
-use Rattle.awaited.specs.Parts.{DuidIn, Within, answers_to, pd_says6}
+use Rattle.awaited.specs.Parts.{DuidIn, answers_to, pd_says6}
 use Rattle.awaited.specs.Facts.{open_as, exchange-is}
 
 -- ---------------------------------------------------------------- the type and the number
@@ -131,53 +128,27 @@ module _ (b m : List ℕ) (k : ℕ) where
 
 -- ---------------------------------------------------------------- the IA_PD
 
-pub pd-read : (b m : List ℕ) (s n : ℕ) {i x y z : ℕ} → i ≡ num_at b 37 4 → x ≡ num_at m s 4 → y ≡ num_at m (s + 4) 4 → z ≡ num_at m (s + 8) 4
-    → eqb x i && not (ltb z y && ltb 0 z) ≡ good_ia (router_of b).me.iaid (ia_at m (Some (spot 0 s n)))
+pub pd-read : (b m : List ℕ) (o : Spot) {i x y z : ℕ} → i ≡ num_at b 37 4 → x ≡ num_at m o.start 4 → y ≡ num_at m (o.start + 4) 4 → z ≡ num_at m (o.start + 8) 4
+    → eqb x i && not (ltb z y && ltb 0 z) ≡ good_ia (router_of b).me.iaid (ia_at m (Some o))
 unfolding router_of ia_at
-pd-read b m s n ei ex ey ez = rw (← ei, ← ex, ← ey, ← ez)
+pd-read b m o ei ex ey ez = rw (← ei, ← ex, ← ey, ← ez)
 
 -- ---------------------------------------------------------------- NoPrefixAvail
 
-pub says-found : (m : List ℕ) {f : Option Spot} {p s n : ℕ} {r : Bool} → f ≡ Some (spot p s n) → r ≡ any (eqb 6) (map (status_at m) (options 13 (area_of m (s + 25) (s + n)))) → r ≡ says6 (listed_at m f).statuses
+pub prefix-says : (m : List ℕ) (p : Spot) {r : Bool} → r ≡ any (eqb 6) (map (status_at m) (options 13 (area_of m (p.start + 25) (p.start + p.len)))) → r ≡ says6 (listed_at m (Some p)).statuses
 unfolding listed_at
-says-found m e g = rw e g
+prefix-says m p e = e
 
-pub says_none : (m : List ℕ) {f : Option Spot} → f ≡ None → false ≡ says6 (listed_at m f).statuses
-unfolding listed_at
-says_none m e = rw e
+module _ (m : List ℕ) (o : Spot) where
+  abbrev pub inner : Area
+  inner = area_of m (o.start + 12) (o.start + o.len)
 
-pub within-found : (e : ℕ) {f : Option Spot} {p s n : ℕ} → f ≡ Some (spot p s n) → Within e f → s + n ≤ e
-within-found e {s = s} {n = n} q w = (rw q at w)
-
-pub found_within : (w k : ℕ) (m : List ℕ) (at e : ℕ) (f : Option Spot) → e ≤ length m → f ≡ nth w k (area_of m at e) → Within (length m) f
-found_within w k m at e (Some o) h q = omega (arith, nth_inside w k m at e (sym q))
-found_within w k m at e None h q = tt
-
--- what is still to be asked
-module _ (m : List ℕ) (s n : ℕ) where
-  abbrev fs : List (Option Spot)
-  fs = options 26 (area_of m (s + 12) (s + n))
-
-  abbrev pub left6 : ℕ → Bool
-  left6 k = any (λ f. says6 (listed_at m f).statuses) (drop k fs)
-
-  pub left-start : left6 0 ≡ any (λ x. says6 x.statuses) (ia_at m (Some (spot 0 s n))).listed
+  pub listed-says : any (λ f. says6 (listed_at m f).statuses) (options 26 inner) ≡ any (λ x. says6 x.statuses) (ia_at m (Some o)).listed
   unfolding ia_at
-  left-start = sym (any-map (λ x. says6 x.statuses) (listed_at m) fs)
+  listed-says = sym (any-map (λ x. says6 x.statuses) (listed_at m) (options 26 inner))
 
-  module _ (k : ℕ) {c : ℕ} (ec : c ≡ length fs) where
-    module _ {f : Option Spot} {r : Bool} (h : k < c) (found : f ≡ get_or fs k None) (said : r ≡ says6 (listed_at m f).statuses) where
-      pub left-hit : r ≡ true → left6 k ≡ true
-      left-hit e = rw (drop-turn fs k ec None h found, ← said, e)
-
-      pub left-miss : r ≡ false → left6 k ≡ left6 (k + 1)
-      left-miss e = rw (drop-turn fs k ec None h found, ← said, e)
-
-    pub left_end : c ≤ k → left6 k ≡ false
-    left_end h = rw (drop-end fs k ec h)
-
-  pub says-read : {x y z : Bool} → x ≡ any (eqb 6) (map (status_at m) (options 13 (area_of m 4 (length m)))) → y ≡ any (eqb 6) (map (status_at m) (options 13 (area_of m (s + 12) (s + n))))
-      → z ≡ any (λ x. says6 x.statuses) (ia_at m (Some (spot 0 s n))).listed → x || (y || z) ≡ says6 (read m).statuses || pd_says6 (ia_at m (Some (spot 0 s n)))
+  pub says-read : {x y z : Bool} → x ≡ any (eqb 6) (map (status_at m) (options 13 (area_of m 4 (length m)))) → y ≡ any (eqb 6) (map (status_at m) (options 13 inner))
+      → z ≡ any (λ x. says6 x.statuses) (ia_at m (Some o)).listed → x || (y || z) ≡ says6 (read m).statuses || pd_says6 (ia_at m (Some o))
   unfolding read top ia_at pd_says6
   says-read ex ey ez = rw (ex, ey, ez)
 
@@ -204,21 +175,16 @@ module _ (b m : List ℕ) (k : ℕ) where
     offers : (v : Message) → may_offer (kind_of k) v ≡ not (eqb k 1) || not (no_prefix v)
     offers v = offer-type (kind_of k) v ∙ ap (λ n. not (eqb n 1) || not (no_prefix v)) (sym (served-type k sv))
 
-    pub offer-one : {p s n : ℕ} {g x : Bool} → only_of 25 m ≡ Some (spot p s n) → g ≡ good_ia (router_of b).me.iaid (ia_at m (Some (spot 0 s n)))
-        → x ≡ says6 (read m).statuses || pd_says6 (ia_at m (Some (spot 0 s n))) → g && (not (eqb k 1) || not x) ≡ offered
+    pub offer-one : (o : Spot) {g x : Bool} → only_of 25 m ≡ Some o → g ≡ good_ia (router_of b).me.iaid (ia_at m (Some o))
+        → x ≡ says6 (read m).statuses || pd_says6 (ia_at m (Some o)) → g && (not (eqb k 1) || not x) ≡ offered
     unfolding read pd_says6
-    offer-one {p} {s} {n} h eg ex =
-        let a = ia_at m (Some (spot 0 s n)) in
-        rw (kept, offers (read m), only_at 25 m h, ia-place m p s n, eg, ex, and-true, or-false (pd_says6 a))
+    offer-one o h eg ex = rw (kept, offers (read m), only_at 25 m h, eg, ex, and-true, or-false (pd_says6 (ia_at m (Some o))))
 
     pub offer-other : only_of 25 m ≡ None → false ≡ offered
     unfolding read
     offer-other h = rw (kept, length-map, ne_eqb (count 25 (top m)) 1 (only-nothing 25 m h))
 
 -- ---------------------------------------------------------------- the whole
-
-pub formed-read : (m : List ℕ) {x : Bool} → x ≡ well_formed m → not (ltb (length m) 4 || ltb 1232 (length m)) && x ≡ not (wrong_size m) && well_formed m
-formed-read m e = rw e
 
 tests_order : (a c d e f g h i : Bool) → a ≡ true → c && d && (e && f) && g && (h && i) ≡ a && c && d && e && f && g && h && i
 tests_order a c d e f g h i q = rw q (simp and_assoc)

@@ -1,12 +1,10 @@
 -- The parts of `awaited` that have no name in the rules, and what its functions ask for.
-use Rattle.std.specs.Prelude.{ℕ, ◌+◌, ◌≤◌, Bool, ◌&&◌, ◌||◌, List, eqb, length, None, Option, Some}
+use Rattle.std.specs.Prelude.{ℕ, ◌+◌, ◌≤◌, Bool, ◌&&◌, ◌||◌, List, eqb, length}
 use Rattle.rules.specs.Words.{any, num_at}
 use Rattle.rules.specs.Message.{Ia, Message}
 use Rattle.rules.specs.Identity.{answer_type}
 use Rattle.rules.specs.Router.{number_before, says6}
 use Rattle.rules.specs.declared.Kind.{Kind}
-use Rattle.rules.specs.declared.Spot.{Spot}
-use Rattle.rules.specs.Options.{spot}
 
 -- the right type and transaction number, for a router whose next number is x
 unfoldable pub answers_to : Kind → ℕ → Message → Bool
@@ -20,8 +18,3 @@ pd_says6 a = says6 a.statuses || any (λ x. says6 x.statuses) a.listed
 pub record DuidIn (b : List ℕ) (at : ℕ) : Type 0 where
   pub room : at + 131 ≤ length b
   pub few : num_at b at 1 ≤ 130
-
--- an option that was found ends at or before e
-abbrev pub Within : ℕ → Option Spot → Type 0
-Within e (Some o) = o.start + o.len ≤ e
-Within e None = Unit {0}

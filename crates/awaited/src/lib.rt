@@ -8,14 +8,14 @@ ghost use Rattle.rules.specs.Message.{listed_at, ia_at, read, well_formed};
 ghost use Rattle.rules.specs.Identity.{served, kind_of, stands};
 ghost use Rattle.rules.specs.Router.{good_ia, good_ias, says6, may_offer, from_server, awaited};
 ghost use Rattle.rules.specs.RouterBytes.{duid_at, router_of, sound_router_bytes};
-ghost use Rattle.rules.specs.Options.{spot};
 ghost use Rattle.laws.specs.Formed.{PdFormed};
-ghost use Rattle.awaited.specs.Parts.{DuidIn, Within, answers_to, pd_says6};
+ghost use Rattle.awaited.specs.Parts.{DuidIn, answers_to, pd_says6};
 
 use heard::only;
 use rules::Spot;
+use wire::check::{well_formed, wrong_size};
 use wire::content::u32_at;
-use wire::find::{count_of, find};
+use wire::options::Options;
 use wire::says::has_status;
 use wire::walk::u8_at;
 
@@ -23,8 +23,7 @@ use wire::walk::u8_at;
 fn formed(msg: &[u8]) -> bool
     ensures { result ≡ not (wrong_size msg.now) && well_formed msg.now }
 {
-    let size = msg.len();
-    !((size < 4) | (1232 < size)) & wire::check::well_formed(msg)
+    !wrong_size(msg) & well_formed(msg)
 }
 
 // The type, and the number of the open exchange, which is the one before the next.
@@ -39,15 +38,15 @@ fn answers(t: &[u8], msg: &[u8], kind: u64) -> bool
         & (number == (next + 0xFF_FFFF) % 0x100_0000)
 }
 
-// Whether the DUID behind its length in the state is that stretch of the message.
-fn is_duid(t: &[u8], at: usize, msg: &[u8], start: usize, len: usize) -> bool
-    requires { DuidIn t.now at × (start + len ≤ length msg.now) }
-    ensures { result ≡ same_bytes (duid_at t.now at) (part start len msg.now) }
+// Whether the DUID behind its length in the state is the content of that option.
+fn is_duid(t: &[u8], at: usize, msg: &[u8], o: Spot) -> bool
+    requires { DuidIn t.now at × (o.start + o.len ≤ length msg.now) }
+    ensures { result ≡ same_bytes (duid_at t.now at) (part o.start o.len msg.now) }
 {
-    if cells::get(t, at, 1) as usize != len {
+    if cells::get(t, at, 1) as usize != o.len {
         return false;
     }
-    cells::same_bytes(t, at + 1, &msg[start..start + len])
+    cells::same_bytes(t, at + 1, &msg[o.start..o.start + o.len])
 }
 
 // One Client ID, the router's own.
@@ -56,7 +55,7 @@ fn own_client(t: &[u8], msg: &[u8]) -> bool
     ensures { result ≡ stands true (read msg.now).clients && all (same_bytes (router_of t.now).me.duid) (read msg.now).clients }
 {
     match only(msg, 1) {
-        Some(o) => is_duid(t, 41, msg, o.start, o.len),
+        Some(o) => is_duid(t, 41, msg, o),
         None => false,
     }
 }
@@ -68,60 +67,49 @@ fn from_server(t: &[u8], msg: &[u8], kind: u64) -> bool
 {
     match only(msg, 2) {
         Some(o) => {
-            let known = is_duid(t, 172, msg, o.start, o.len);
+            let known = is_duid(t, 172, msg, o);
             (3 <= o.len) & (o.len <= 130) & ((kind == 1) | (kind == 6) | known)
         }
         None => false,
     }
 }
 
-// The IA_PD with that content has the router's own IAID, and not T1 > T2 > 0.
-fn good_pd(t: &[u8], msg: &[u8], start: usize, len: usize) -> bool
-    requires { (length t.now ≡ 384) × PdFormed msg.now start len }
-    ensures { result ≡ good_ia (router_of t.now).me.iaid (ia_at msg.now (Some (spot 0 start len))) }
+// The IA_PD has the router's own IAID, and not T1 > T2 > 0.
+fn good_pd(t: &[u8], msg: &[u8], o: Spot) -> bool
+    requires { (length t.now ≡ 384) × PdFormed msg.now o.start o.len }
+    ensures { result ≡ good_ia (router_of t.now).me.iaid (ia_at msg.now (Some o)) }
 {
     let own = cells::get(t, 37, 4) as u32;
-    let iaid = u32_at(msg, start);
-    let t1 = u32_at(msg, start + 4);
-    let t2 = u32_at(msg, start + 8);
+    let iaid = u32_at(msg, o.start);
+    let t1 = u32_at(msg, o.start + 4);
+    let t2 = u32_at(msg, o.start + 8);
     (iaid == own) & !((t2 < t1) & (0 < t2))
 }
 
 // Whether an IA Prefix has a Status Code NoPrefixAvail.
-fn says_6(msg: &[u8], f: Option<Spot>) -> bool
-    requires { Within (length msg.now) f }
-    ensures { result ≡ says6 (listed_at msg.now f).statuses }
+fn says_6(msg: &[u8], p: Spot) -> bool
+    requires { p.start + p.len ≤ length msg.now }
+    ensures { result ≡ says6 (listed_at msg.now (Some p)).statuses }
 {
-    match f {
-        Some(o) => has_status(msg, o.start + 25, o.start + o.len, 6),
-        None => false,
-    }
+    has_status(msg, p.start + 25, p.start + p.len, 6)
 }
 
-// Whether some IA Prefix of the IA_PD with that content does.
-fn prefix_says_6(msg: &[u8], start: usize, len: usize) -> bool
-    requires { PdFormed msg.now start len }
-    ensures { result ≡ any (λ x. says6 x.statuses) (ia_at msg.now (Some (spot 0 start len))).listed }
+// Whether some IA Prefix of the IA_PD does.
+fn prefix_says_6(msg: &[u8], o: Spot) -> bool
+    requires { PdFormed msg.now o.start o.len }
+    ensures { result ≡ any (λ x. says6 x.statuses) (ia_at msg.now (Some o)).listed }
 {
-    let n = count_of(msg, start + 12, start + len, 26);
-    let mut k = 0;
-    while k < n {
-        if says_6(msg, find(msg, start + 12, start + len, 26, k)) {
-            return true;
-        }
-        k += 1;
-    }
-    false
+    Options::new(msg, o.start + 12, o.start + o.len, 26).any(|p| says_6(msg, p))
 }
 
 // NoPrefixAvail at any level.
-fn no_prefix(msg: &[u8], start: usize, len: usize) -> bool
-    requires { PdFormed msg.now start len }
-    ensures { result ≡ says6 (read msg.now).statuses || pd_says6 (ia_at msg.now (Some (spot 0 start len))) }
+fn no_prefix(msg: &[u8], o: Spot) -> bool
+    requires { PdFormed msg.now o.start o.len }
+    ensures { result ≡ says6 (read msg.now).statuses || pd_says6 (ia_at msg.now (Some o)) }
 {
     let here = has_status(msg, 4, msg.len(), 6);
-    let inside = has_status(msg, start + 12, start + len, 6);
-    here | (inside | prefix_says_6(msg, start, len))
+    let inside = has_status(msg, o.start + 12, o.start + o.len, 6);
+    here | (inside | prefix_says_6(msg, o))
 }
 
 // For all but Release, one IA_PD, a good one; and no NoPrefixAvail in an Advertise.
@@ -134,8 +122,8 @@ fn offers(t: &[u8], msg: &[u8], kind: u64) -> bool
     }
     match only(msg, 25) {
         Some(o) => {
-            let good = good_pd(t, msg, o.start, o.len);
-            good & ((kind != 1) | !no_prefix(msg, o.start, o.len))
+            let good = good_pd(t, msg, o);
+            good & ((kind != 1) | !no_prefix(msg, o))
         }
         None => false,
     }

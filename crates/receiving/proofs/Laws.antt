@@ -3,18 +3,17 @@ use mathlib.Core.Path.{◌≡◌, refl, sym, ap, ◌∙◌}
 use mathlib.Core.Bool.{Bool, true, false, cond, not, ◌&&◌, ◌||◌}
 use mathlib.Core.List.{List, [], ◌∷◌, map}
 use Rattle.std.specs.Prelude.{Option, None, Some, Result, Err, Ok}
-use Prim.Native.Nat.{ℕ, suc, ◌+◌, ◌-◌, ◌*◌, ◌^◌, ◌≤◌, ◌<◌}
+use Prim.Native.Nat.{ℕ, suc, ◌+◌, ◌*◌, ◌^◌, ◌≤◌, ◌<◌}
 use native.Mathlib.Omega.{arith}
 use Rattle.std.proofs.Common.{lit<}
 use Rattle.rules.specs.RouterBytes.{sound_router_bytes}
-use native.Mathlib.Nat.{add-sub_cancel_left}
 use borrow.Author.Tests.{ne_eqb, eq-eqb, eqb-true, leb-true, le-leb, not-true, not-false}
 use lib.Dec.{eqb, leb, ltb}
-use lib.ListN.{length, get_or, take, drop, replicate, length-map, get_or-map}
-use Rattle.rules.specs.Words.{all, first, part, splice, num, num_at}
+use lib.ListN.{length, get_or, replicate, length-map, get_or-map}
+use Rattle.rules.specs.Words.{all, first, splice, num, num_at}
 use Rattle.rules.specs.Refusals.{Res, refuse, done, number_of, unless, bad_time}
 use Rattle.rules.specs.Prefix.{prefix, front, zero_after, fits, encodable, lease_encodable}
-use Rattle.rules.specs.Options.{area_of, in_pd, options, nth, content}
+use Rattle.rules.specs.Options.{area_of, in_pd, options, content}
 use Rattle.rules.specs.Clock.{plus}
 use Rattle.rules.specs.Message.{Listed, listed_at, ia_at, top, read}
 use Rattle.rules.specs.Identity.{Duid, good_duid, kind_of, type_of, is_release, stands}
@@ -32,20 +31,23 @@ use Rattle.laws.specs.Tests.{both, neither, false-true}
 use Rattle.laws.specs.Refusals.{none-applies, number-refused, refused_by, unless-made}
 use Rattle.laws.specs.Every.{Every}
 use Rattle.laws.specs.Kinds.{one-stands}
-use Rattle.laws.specs.Formed.{PdFormed, PrefixFormed, formed-prefix, listed-place, ia-place}
+use Rattle.laws.specs.Formed.{PdFormed, PrefixFormed, formed-prefix, listed-place}
 use Rattle.laws.specs.Told.{listed-fine}
 use Rattle.laws.specs.RouterFields.{sound-facts}
 use Rattle.laws.specs.RouterRepresent.{lent_length, router-sound-bytes}
 use Rattle.laws.specs.RouterChange.{server_given, hold_given, release-type}
-use Rattle.laws.specs.Scan.{drop-turn, drop-end}
 use Rattle.values.specs.Values.{except_of, lease_of, lease_encodes, listed_of}
 use Rattle.values.specs.declared.IaPrefix.{IaPrefix}
 use Rattle.heard.specs.Heard.{only_of}
-use Rattle.heard.specs.Facts.{only_at, only-nothing}
+use Rattle.heard.specs.Facts.{only_at, only-inside, only-nothing}
 use Rattle.state.specs.Judged.{by_state}
 use Rattle.state.specs.Facts.{state-here, state-later, state-sound, router-once}
 use Rattle.awaited.specs.Facts.{Awaited, awaited-facts, exchange-is, open_as, kind-type}
-use Rattle.receiving.specs.Received.{awaited_tests, tests, judged, Accepted, ListedIn, first_found, taken_in, server_told}
+use Rattle.wire.proofs.Spots.{options-there}
+use Rattle.wire.specs.Found.{Within}
+use Rattle.wire.specs.Spots.{there}
+use Rattle.std.specs.List.{find}
+use Rattle.receiving.specs.Received.{awaited_tests, tests, judged, Accepted, first_found, taken_in, server_told}
 
 -- ---------------------------------------------------------------- 9, 1, 14
 
@@ -87,45 +89,21 @@ pub takes-read : (x : IaPrefix) {z : Bool} → z ≡ zero_after (prefix (num x.b
 unfolding listed_of lease_of
 takes-read x e = rw e
 
-module _ (m : List ℕ) {f : Option Spot} where
-  pub taken-found : (x : IaPrefix) {p s n : ℕ} {r : Bool} → f ≡ Some (spot p s n) → listed_of x (listed_at m (Some (spot 0 s n))).statuses ≡ listed_at m (Some (spot 0 s n))
-      → r ≡ takes (listed_of x []) → r ≡ takes (listed_at m f)
-  unfolding listed_of
-  taken-found x {p} {s} {n} e q g = g ∙ ap takes (q ∙ sym (listed-place m p s n)) ∙ ap (λ h. takes (listed_at m h)) (sym e)
+pub taken-read : (m : List ℕ) (p : Spot) (x : IaPrefix) {r : Bool} → listed_of x (listed_at m (Some (spot 0 p.start p.len))).statuses ≡ listed_at m (Some (spot 0 p.start p.len))
+    → r ≡ takes (listed_of x []) → r ≡ takes (listed_at m (Some p))
+unfolding listed_of
+taken-read m p x q g = g ∙ ap takes (q ∙ sym (listed-place m p.place p.start p.len))
 
-  pub taken-nothing : f ≡ None → false ≡ takes (listed_at m f)
-  unfolding listed_at
-  taken-nothing e = rw e
+first-some : (f : Option Spot → Bool) (l : List Spot) → first_found f (map Some l) ≡ find (λ p. f (Some p)) l
+first-some f [] = refl
+first-some f (x ∷ l) = rw (first-some f l)
 
-  pub listed_found : {p s n : ℕ} → f ≡ Some (spot p s n) → ListedIn m f → PrefixFormed m s n
-  listed_found e h = (rw e at h)
-
-pub found-listed : (m : List ℕ) (s n k : ℕ) (f : Option Spot) → PdFormed m s n → f ≡ nth 26 k (area_of m (s + 12) (s + n)) → ListedIn m f
-found-listed m s n k (Some o) h q = formed-prefix m s n h k (sym q)
-found-listed m s n k None h q = tt
-
--- what is still to be looked at
-module _ (m : List ℕ) (s n : ℕ) where
-  abbrev fs : List (Option Spot)
-  fs = options 26 (area_of m (s + 12) (s + n))
-
-  abbrev pub first_left : ℕ → Option Spot
-  first_left k = first_found (λ f. takes (listed_at m f)) (drop k fs)
-
-  pub left-start : first_left 0 ≡ taken_in m s n
-  unfolding taken_in
-  left-start = refl
-
-  module _ (k : ℕ) {c : ℕ} (ec : c ≡ length fs) where
-    module _ {f : Option Spot} {r : Bool} (h : k < c) (found : f ≡ get_or fs k None) (test : r ≡ takes (listed_at m f)) where
-      pub left-hit : r ≡ true → first_left k ≡ f
-      left-hit e = rw (drop-turn fs k ec None h found, ← test, e)
-
-      pub left-miss : r ≡ false → first_left k ≡ first_left (k + 1)
-      left-miss e = rw (drop-turn fs k ec None h found, ← test, e)
-
-    pub left_end : c ≤ k → first_left k ≡ None
-    left_end h = rw (drop-end fs k ec h)
+-- the first of those that the iterator gives
+pub found-first : (m : List ℕ) (s n : ℕ) → find (λ p. takes (listed_at m (Some p))) (there (options 26 (area_of m (s + 12) (s + n)))) ≡ taken_in m s n
+unfolding taken_in
+found-first m s n =
+    let a = area_of m (s + 12) (s + n) in
+    sym (ap (first_found (λ f. takes (listed_at m f))) (options-there 26 a) ∙ first-some (λ f. takes (listed_at m f)) (there (options 26 a)))
 
 -- what is found stands in the list
 first-at : (f : Option Spot → Bool) (l : List (Option Spot)) {p s n : ℕ} → first_found f l ≡ Some (spot p s n) → (k : ℕ) × (get_or l k None ≡ Some (spot p s n))
@@ -190,27 +168,27 @@ prefix-encodes m {s} {n} f x q =
     let g : in_pd m 0 0 26 s n ≡ Ok tt = rw (le-leb 25 n f.long, le-leb (get_or m (s + 8) 0) 128 f.short) f.inner in
     ap (λ y. lease_encodable y.prefix y.except) l ∙ (listed-fine m (length m) (omega arith) (Some (spot 0 s n)) (f.within, 0, g)).encodes
 
-module _ (m : List ℕ) (s n began now : ℕ) where
+module _ (m : List ℕ) (o : Spot) (began now : ℕ) where
   abbrev gives : Option Hold
-  gives = taken now began (first takes (ia_at m (Some (spot 0 s n))).listed)
+  gives = taken now began (first takes (ia_at m (Some o)).listed)
 
-  first_taken : first takes (ia_at m (Some (spot 0 s n))).listed ≡ taken_as m (taken_in m s n)
+  first_taken : first takes (ia_at m (Some o)).listed ≡ taken_as m (taken_in m o.start o.len)
   unfolding ia_at taken_in
-  first_taken = first-as m (options 26 (area_of m (s + 12) (s + n)))
+  first_taken = first-as m (options 26 (area_of m (o.start + 12) (o.start + o.len)))
 
-  pub taken-formed : PdFormed m s n → {p t l : ℕ} → taken_in m s n ≡ Some (spot p t l) → PrefixFormed m t l
+  pub taken-formed : PdFormed m o.start o.len → {p t l : ℕ} → taken_in m o.start o.len ≡ Some (spot p t l) → PrefixFormed m t l
   unfolding taken_in
-  taken-formed h e = let r = first-at (λ f. takes (listed_at m f)) (options 26 (area_of m (s + 12) (s + n))) e in formed-prefix m s n h r.0 r.1
+  taken-formed h e = let r = first-at (λ f. takes (listed_at m f)) (options 26 (area_of m (o.start + 12) (o.start + o.len))) e in formed-prefix m o.start o.len h r.0 r.1
 
-  pub taken-some : {p t l : ℕ} {r : List ℕ} (x : IaPrefix) → taken_in m s n ≡ Some (spot p t l) → listed_of x (listed_at m (Some (spot 0 t l))).statuses ≡ listed_at m (Some (spot 0 t l))
+  pub taken-some : {p t l : ℕ} {r : List ℕ} (x : IaPrefix) → taken_in m o.start o.len ≡ Some (spot p t l) → listed_of x (listed_at m (Some (spot 0 t l))).statuses ≡ listed_at m (Some (spot 0 t l))
       → r ≡ held_bytes (held_until now (lease_of x) (plus began x.valid)) → r ≡ held_bytes gives
   unfolding listed_of
   taken-some {p} {t} {l} x e q g =
-      let y : Some (listed_of x (listed_at m (Some (spot 0 t l))).statuses) ≡ first takes (ia_at m (Some (spot 0 s n))).listed =
+      let y : Some (listed_of x (listed_at m (Some (spot 0 t l))).statuses) ≡ first takes (ia_at m (Some o)).listed =
       ap Some (q ∙ sym (listed-place m p t l)) ∙ sym (first_taken ∙ ap (taken_as m) e) in
       g ∙ ap (λ o. held_bytes (taken now began o)) y
 
-  pub taken_none : taken_in m s n ≡ None → replicate 43 0 ≡ held_bytes gives
+  pub taken_none : taken_in m o.start o.len ≡ None → replicate 43 0 ≡ held_bytes gives
   taken_none e = sym (ap (λ o. held_bytes (taken now began o)) (first_taken ∙ ap (taken_as m) e))
 
 -- ---------------------------------------------------------------- what is held afterwards
@@ -251,11 +229,11 @@ module _ {b m : List ℕ} {k : ℕ} (a : Accepted b m k) where
     held_kept t q = let l : left ≡ (router_of b).held = left_is ∙ rw t in q ∙ ap held_bytes (sym l)
 
     module _ (t : eqb k 1 || eqb k 8 ≡ false) where
-      pub held-taken : {h : List ℕ} {e p s n : ℕ} → e ≡ num_at b 16 8 → only_of 25 m ≡ Some (spot p s n) → h ≡ held_bytes (taken now e (first takes (ia_at m (Some (spot 0 s n))).listed)) → h ≡ held_bytes left
+      pub held-taken : {h : List ℕ} {e : ℕ} (o : Spot) → e ≡ num_at b 16 8 → only_of 25 m ≡ Some o → h ≡ held_bytes (taken now e (first takes (ia_at m (Some o)).listed)) → h ≡ held_bytes left
       unfolding read router_of
-      held-taken {e = e} {p} {s} {n} q o g =
-          let i : ia_of (read m) ≡ ia_at m (Some (spot 0 s n)) = rw (only_at 25 m o) (ia-place m p s n) in
-          let l : left ≡ taken now e (first takes (ia_at m (Some (spot 0 s n))).listed) = left_is ∙ rw t (λ j. taken now (sym q j) (first takes (i j).listed)) in
+      held-taken {e = e} o q f g =
+          let i : ia_of (read m) ≡ ia_at m (Some o) = rw (only_at 25 m f) in
+          let l : left ≡ taken now e (first takes (ia_at m (Some o)).listed) = left_is ∙ rw t (λ j. taken now (sym q j) (first takes (i j).listed)) in
           g ∙ ap held_bytes (sym l)
 
       pub held_one : only_of 25 m ≡ None → ⊥
@@ -276,7 +254,7 @@ module _ (k : ℕ) (m : List ℕ) where
       rw (not-true (eqb k 1) p.0, not-true (eqb k 6) p.1)
 
   module _ (h : not (eqb k 1) && not (eqb k 6) ≡ false) where
-    told : server_told k m ≡ content m (only_of 2 m)
+    pub told : server_told k m ≡ content m (only_of 2 m)
     unfolding server_told
     told = rw (by (eqb k 1) (eqb k 6) h)
       where
@@ -284,12 +262,9 @@ module _ (k : ℕ) (m : List ℕ) where
         by true y h = refl
         by false y h = not-false y h
 
-    pub server-told : {p s n : ℕ} → only_of 2 m ≡ Some (spot p s n) → take (s + n - s) (drop s m) ≡ server_told k m
-    unfolding part
-    server-told e = rw (told, e, add-sub_cancel_left)
-
-    pub server-none : only_of 2 m ≡ None → [] ≡ server_told k m
-    server-none e = rw (told, e)
+pub only-within : (w : ℕ) (m : List ℕ) (f : Option Spot) → f ≡ only_of w m → Within (length m) f
+only-within w m (Some o) q = only-inside w m (sym q)
+only-within w m None q = tt
 
 -- the Server ID of a message that has one
 only-content : (m : List ℕ) → stands true (read m).servers ≡ true → content m (only_of 2 m) ≡ get_or (read m).servers 0 []

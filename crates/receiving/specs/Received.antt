@@ -1,14 +1,12 @@
 -- What receiving judges by, and what it takes of a message.
-use Rattle.std.specs.Prelude.{◌≡◌, Bool, true, cond, not, ◌||◌, List, [], ◌∷◌, ◌++◌, ℕ, ◌+◌, eqb, None, Option, Some}
+use Rattle.std.specs.Prelude.{◌≡◌, Bool, true, cond, not, ◌||◌, List, [], ◌∷◌, ◌++◌, ℕ, ◌+◌, eqb, None, Option}
 use Rattle.rules.specs.Words.{num_at}
 use Rattle.rules.specs.Options.{area_of, options, content}
 use Rattle.rules.specs.Message.{listed_at, read}
 use Rattle.rules.specs.Router.{awaited, takes}
 use Rattle.rules.specs.RouterBytes.{router_of, sound_router_bytes}
 use Rattle.rules.specs.declared.Spot.{Spot}
-use Rattle.rules.specs.Options.{spot}
 use Rattle.laws.specs.Refusals.{number}
-use Rattle.laws.specs.Formed.{PrefixFormed}
 use Rattle.heard.specs.Heard.{only_of}
 use Rattle.state.specs.Judged.{state_tests}
 
@@ -27,11 +25,6 @@ pub record Accepted (b m : List ℕ) (k : ℕ) : Type 0 where
   pub sound : sound_router_bytes b ≡ true
   pub kind : k ≡ num_at b 346 1
   pub awaits : awaited (router_of b) m (read m) (router_of b).exchange ≡ true
-
--- what was found is an IA Prefix that can be read
-abbrev pub ListedIn : List ℕ → Option Spot → Type 0
-ListedIn m (Some o) = PrefixFormed m o.start o.len
-ListedIn m None = Unit {0}
 
 -- the first that passes
 abbrev pub first_found : (Option Spot → Bool) → List (Option Spot) → Option Spot

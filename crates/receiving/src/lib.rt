@@ -10,11 +10,10 @@ ghost use Rattle.rules.specs.Box.{ia_of};
 ghost use Rattle.rules.specs.Router.{takes, held_until, taken, held_after};
 ghost use Rattle.rules.specs.RouterBytes.{held_bytes, router_of};
 ghost use Rattle.rules.specs.Lent.{ended, router_received, word_of};
-ghost use Rattle.rules.specs.Options.{spot};
-ghost use Rattle.laws.specs.Formed.{PdFormed};
+ghost use Rattle.laws.specs.Formed.{PdFormed, PrefixFormed};
 ghost use Rattle.laws.specs.Refusals.{refused_by};
 ghost use Rattle.values.specs.Values.{lease_of, lease_encodes, listed_of};
-ghost use Rattle.receiving.specs.Received.{judged, Accepted, ListedIn, taken_in, server_told};
+ghost use Rattle.receiving.specs.Received.{judged, Accepted, taken_in, server_told};
 
 use clock::{Lifetime, Moment};
 use heard::only;
@@ -22,7 +21,8 @@ use rules::{Refusal, Spot};
 use state::judge::by_state;
 use values::IaPrefix;
 use wire::content::prefix_at;
-use wire::find::{count_of, find};
+use wire::find::content;
+use wire::options::Options;
 
 // 9, 1, 14: why the message isn't taken.
 fn judge(t: &[u8], time: u64, msg: &[u8]) -> Result<(), Refusal>
@@ -43,32 +43,20 @@ fn takes(x: IaPrefix) -> bool
     (0 < x.valid) & (x.preferred <= x.valid) & prefix::whole::zero_after16(bits, x.length)
 }
 
-// Whether what was found is taken.
-fn is_taken(msg: &[u8], f: Option<Spot>) -> bool
-    requires { ListedIn msg.now f }
-    ensures { result ≡ takes (listed_at msg.now f) }
+// Whether an IA Prefix of the message is taken.
+fn is_taken(msg: &[u8], p: Spot) -> bool
+    requires { PrefixFormed msg.now p.start p.len }
+    ensures { result ≡ takes (listed_at msg.now (Some p)) }
 {
-    match f {
-        Some(o) => takes(prefix_at(msg, o.start, o.len)),
-        None => false,
-    }
+    takes(prefix_at(msg, p.start, p.len))
 }
 
-// The first IA Prefix of the IA_PD with that content that is taken.
-fn first_taken(msg: &[u8], start: usize, len: usize) -> Option<Spot>
-    requires { PdFormed msg.now start len }
-    ensures { result ≡ taken_in msg.now start len }
+// The first IA Prefix of the IA_PD that is taken.
+fn first_taken(msg: &[u8], o: Spot) -> Option<Spot>
+    requires { PdFormed msg.now o.start o.len }
+    ensures { result ≡ taken_in msg.now o.start o.len }
 {
-    let n = count_of(msg, start + 12, start + len, 26);
-    let mut k = 0;
-    while k < n {
-        let f = find(msg, start + 12, start + len, 26, k);
-        if is_taken(msg, f) {
-            return f;
-        }
-        k += 1;
-    }
-    None
+    Options::new(msg, o.start + 12, o.start + o.len, 26).find(|p| is_taken(msg, *p))
 }
 
 // The hold on a prefix from the moment of first sending on, if its end is after now.
@@ -85,13 +73,13 @@ fn hold_of(x: IaPrefix, began: u64, time: u64) -> [u8; 43]
     state::hold::made(bits, x.length as u8, out, x.cut as u8, end.0)
 }
 
-// The hold that the IA_PD with that content gives.
-fn taken(msg: &[u8], start: usize, len: usize, began: u64, time: u64) -> [u8; 43]
-    requires { PdFormed msg.now start len × (began < 2 ^ 48) }
-    ensures { result ≡ held_bytes (taken time began (first takes (ia_at msg.now (Some (spot 0 start len))).listed)) }
+// The hold that the IA_PD gives.
+fn taken(msg: &[u8], o: Spot, began: u64, time: u64) -> [u8; 43]
+    requires { PdFormed msg.now o.start o.len × (began < 2 ^ 48) }
+    ensures { result ≡ held_bytes (taken time began (first takes (ia_at msg.now (Some o)).listed)) }
 {
-    match first_taken(msg, start, len) {
-        Some(o) => hold_of(prefix_at(msg, o.start, o.len), began, time),
+    match first_taken(msg, o) {
+        Some(p) => hold_of(prefix_at(msg, p.start, p.len), began, time),
         None => [0u8; 43],
     }
 }
@@ -106,7 +94,7 @@ fn held_after(t: &[u8], time: u64, msg: &[u8], kind: u64) -> [u8; 43]
     }
     let began = cells::get(t, 16, 8);
     match only(msg, 25) {
-        Some(o) => taken(msg, o.start, o.len, began, time),
+        Some(o) => taken(msg, o, began, time),
         None => [0u8; 43],
     }
 }
@@ -118,10 +106,7 @@ fn server_after(msg: &[u8], kind: u64) -> &[u8]
     if (kind != 1) & (kind != 6) {
         return &msg[..0];
     }
-    match only(msg, 2) {
-        Some(o) => &msg[o.start..o.start + o.len],
-        None => &msg[..0],
-    }
+    content(msg, only(msg, 2))
 }
 
 // The message awaited closes the exchange. Nothing is written out: the length is 0.

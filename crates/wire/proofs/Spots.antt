@@ -1,12 +1,14 @@
 -- The options of one code as a list of places.
 --   stops                    no option stands where a turn ends the walk
 --   spots-count, -nth, -any  how many there are, the k-th, and whether some passes a test
+--   spots-at                 one that the list has is an option of the area
 --   spots-few                there are few enough to be counted
-use Rattle.std.specs.Prelude.{◌≡◌, refl, ℕ, zero, suc, ◌+◌, ◌-◌, ◌≤◌, List, [], ◌∷◌, map, Bool, true, false, ◌⊎◌, eqb, length, get_or, None, Option, Some, slice_get}
+use Rattle.std.specs.Prelude.{◌≡◌, refl, ℕ, zero, suc, ◌+◌, ◌-◌, ◌≤◌, ◌<◌, List, [], ◌∷◌, map, Bool, true, false, ◌⊎◌, eqb, length, get_or, None, Option, Some, slice_get}
 use Rattle.std.specs.List.{list_any}
 use Rattle.std.specs.Option.{option_map}
 use Rattle.std.proofs.Common.{◌∙◌, ap, arith, inl, inr, sym}
 use Rattle.std.proofs.lemmas.List.{length-map}
+use Rattle.std.proofs.lemmas.Option.{slice_get_read}
 use Rattle.rules.specs.Words.{any, cons_if}
 use Rattle.rules.specs.Options.{Area, over, stop, opt, step_at, grow, walk, area_of, options, count, nth, spot}
 use Rattle.rules.specs.declared.Spot.{Spot}
@@ -20,7 +22,7 @@ stops m at e q (inl h) = ended m at e (sym q ∙ h)
 stops m at e q (inr h) = broke m at e (sym q ∙ h.1)
 
 module _ (w : ℕ) where
-  options-there : (a : Area) → options w a ≡ map Some (there (options w a))
+  pub options-there : (a : Area) → options w a ≡ map Some (there (options w a))
   unfolding options
   options-there over = refl
   options-there (stop p) = refl
@@ -41,6 +43,10 @@ module _ (w : ℕ) where
 
   pub spots-nth : (a : Area) (k : ℕ) → slice_get (there (options w a)) k ≡ nth w k a
   spots-nth a k = sym (ap (λ l. get_or l k None) (options-there a) ∙ nth-some (there (options w a)) k)
+
+  -- one that the list has is the option at its place in the order
+  pub spots-at : (a : Area) (x : Spot) (k : ℕ) → k < length (there (options w a)) → x ≡ get_or (there (options w a)) k x → nth w k a ≡ Some x
+  spots-at a x k h q = sym (spots-nth a k) ∙ slice_get_read (there (options w a)) _ k x refl h q
 
   any-some : (f : Option Spot → Bool) (l : List Spot) → any f (map Some l) ≡ list_any (λ o. f (Some o)) l
   any-some f [] = refl

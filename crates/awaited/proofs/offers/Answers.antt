@@ -24,7 +24,7 @@ no_prefix-requires c =
 pub returns-in-Some : goal.returns-in-Some
 returns-in-Some c =
     let was : only_of 25 c.args.msg.now ≡ Some (spot c.in-Some.o.place c.in-Some.o.start c.in-Some.o.len) = cc in
-    offer-one c.args.t.now c.args.msg.now c.args.kind c.requires.2 c.if-kind-eq8.false was c.good_pd-good.ensures c.no_prefix.ensures
+    offer-one c.args.t.now c.args.msg.now c.args.kind c.requires.2 c.if-kind-eq8.false c.in-Some.o was c.good_pd-good.ensures c.no_prefix.ensures
 
 pub returns-in-None : goal.returns-in-None
 returns-in-None c = offer-other c.args.t.now c.args.msg.now c.args.kind c.requires.2 c.if-kind-eq8.false (sym c.only.ensures ∙ c.in-None.is)

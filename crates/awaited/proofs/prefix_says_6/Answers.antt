@@ -1,18 +1,30 @@
-use Rattle.std.proofs.Common.{◌∙◌, sym}
-use Rattle.awaited.proofs.Laws.{found_within, left_end, left-hit, left-miss, left-start}
+-- Some of the IA Prefixes that the iterator gives says it; each of them lies in the message.
+use Rattle.std.specs.Prelude.{Some}
+use Rattle.std.proofs.Common.{◌∙◌, ◌≡◌, ◌+◌, arith, rules, sym, tests}
+use Rattle.std.proofs.lemmas.Iterator.Adapters.{serves_from_places}
+use Rattle.std.proofs.lemmas.Iterator.Consumers.{YieldsList-from_first}
+use Rattle.std.proofs.lemmas.Iterator.Search.{any_from_yields_List}
+use Rattle.rules.specs.Message.{listed_at}
+use Rattle.rules.specs.Options.{options}
+use Rattle.rules.specs.Router.{says6}
+use Rattle.laws.specs.Walk.{nth_inside}
+use Rattle.wire.proofs.Spots.{spots-any, spots-at}
+use Rattle.wire.specs.Spots.{left, there}
+use Rattle.awaited.proofs.Laws.{inner, listed-says}
 use Rattle.awaited.proofs.prefix_says_6.Goals as goal
 
-pub loop-k-init : goal.loop-k-init
-loop-k-init c = left-start _ _ _
-
-pub says_6-requires : goal.says_6-requires
-says_6-requires c = found_within 26 _ c.args.msg.now _ _ _ c.requires.within c.find.ensures
-
-pub returns-then-says_6 : goal.returns-then-says_6
-returns-then-says_6 c = sym (left-hit c.args.msg.now c.args.start c.args.len _ c.count_of-n.ensures c.loop-k-test.true c.find.ensures c.says_6.ensures c.if-says_6.true) ∙ c.loop-k.invariant
-
-pub loop-k-preserved : goal.loop-k-preserved
-loop-k-preserved c = sym (left-miss c.args.msg.now c.args.start c.args.len _ c.count_of-n.ensures c.loop-k-test.true c.find.ensures c.says_6.ensures c.if-says_6.false) ∙ c.loop-k.invariant
+pub any-requires-clause-callable : goal.any-requires-clause-callable
+any-requires-clause-callable c =
+    let m = c.args.msg.now in
+    let o = c.args.o in
+    let is : left c.new.result ≡ there (options 26 (inner m o)) = simp (c.new.ensures.0, c.new.ensures.1, c.new.ensures.2, c.new.ensures.3) in
+    serves_from_places (YieldsList-from_first (λ x. x) left _ is) (λ x q r. search rules)
+    (λ x k h q. omega (arith, c.requires.within, nth_inside 26 k m (o.start + 12) (o.start + o.len) (spots-at 26 (inner m o) x k h q)))
 
 pub returns : goal.returns
-returns c = sym (left_end c.args.msg.now c.args.start c.args.len c.loop-k.k c.count_of-n.ensures c.loop-k-test.false) ∙ c.loop-k.invariant
+returns c =
+    let m = c.args.msg.now in
+    let o = c.args.o in
+    let is : left c.new.result ≡ there (options 26 (inner m o)) = simp (c.new.ensures.0, c.new.ensures.1, c.new.ensures.2, c.new.ensures.3) in
+    any_from_yields_List (λ p. says6 (listed_at m (Some p)).statuses) c.any.new.self _ _ c.any.ensures.ran (YieldsList-from_first (λ x. x) left _ is) (λ x b q k. search (rules, tests))
+    ∙ sym (spots-any 26 (λ f. says6 (listed_at m f).statuses) (inner m o)) ∙ listed-says m o

@@ -23,7 +23,7 @@ taken-requires c =
 pub returns-in-Some : goal.returns-in-Some
 returns-in-Some c =
     let was : only_of 25 c.args.msg.now ≡ Some (spot c.in-Some.o.place c.in-Some.o.start c.in-Some.o.len) = cc in
-    held-taken c.requires _ c.if-kind.false c.get-began.ensures.0 was c.taken.ensures
+    held-taken c.requires _ c.if-kind.false c.in-Some.o c.get-began.ensures.0 was c.taken.ensures
 
 pub returns-in-None : goal.returns-in-None
 returns-in-None c = absurd (held_one c.requires c.args.time c.if-kind.false (sym c.only.ensures ∙ c.in-None.is))
