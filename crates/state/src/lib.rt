@@ -45,6 +45,7 @@ pub const KIND: usize = 346; // the type of the open exchange, 1
 pub const SENT: usize = 347; // the delegation that it sends, 34
 
 // The n bytes from `at` are a DUID, and zeros follow up to 130.
+// The box's twin (sound::good_duid) stays apart: what is below both, cells, knows bytes and no DUIDs, and that one is a bar of speed.
 fn good_duid(t: &[u8], at: usize, n: usize) -> bool
     requires { at + 130 ≤ length t.now }
     ensures { result ≡ duid_in at n t.now }
@@ -70,6 +71,7 @@ fn good_except(t: &[u8], at: usize) -> bool
 }
 
 // The 34 bytes from `at` are a good delegation.
+#[tactic(auto, unfolding(laws::specs::RouterFlat::lease_in))]
 fn good_lease(t: &[u8], at: usize) -> bool
     requires { at + 34 ≤ length t.now }
     ensures { result ≡ lease_in at t.now }
@@ -80,6 +82,7 @@ fn good_lease(t: &[u8], at: usize) -> bool
 }
 
 // The times, the transaction number and the wanted length.
+#[tactic(auto, unfolding(laws::specs::RouterFlat::numbers_in))]
 fn good_numbers(t: &[u8; 384]) -> bool
     ensures { result ≡ numbers_in t.now }
 {

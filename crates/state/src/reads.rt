@@ -1,4 +1,5 @@
 // What a sound state says, beside its numbers.
+// That it is sound stands in clauses: a struct of the borrowed bytes with that fact would be made anew around each change of them.
 #![tactic(auto, using(laws::specs::RouterRepresent::lent_length))]
 
 ghost use Rattle.std.specs.Prelude.{◌≡◌, true, option_map};
