@@ -10,6 +10,7 @@ ghost use Rattle.requester.specs.Judged.{by_times, by_sending, by_resending, by_
 use rules::{Kind, Refusal};
 use state::judge::by_state;
 use state::reads::{is_held, is_known, open_kind};
+use state::{BEGAN, FREED, STARTED};
 
 // Whether an exchange is open.
 fn is_open(t: &[u8]) -> bool
@@ -27,9 +28,9 @@ fn by_times(t: &[u8], time: u64) -> Result<(), Refusal>
     if is_open(t) {
         return Err(Refusal::Busy);
     }
-    let started = cells::get(t, 8, 8);
-    let freed = cells::get(t, 24, 8);
-    let began = cells::get(t, 16, 8);
+    let started = cells::get(t, STARTED, 8);
+    let freed = cells::get(t, FREED, 8);
+    let began = cells::get(t, BEGAN, 8);
     if (time <= started + 60) | (time <= freed + 60) | (time <= began) {
         return Err(Refusal::Early);
     }

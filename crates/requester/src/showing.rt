@@ -5,6 +5,7 @@ ghost use Rattle.rules.specs.Lent.{ended, word_of, router_shown};
 use rules::Refusal;
 use state::judge::by_state;
 use state::reads::is_held;
+use state::{KIND, LEASE};
 
 // What is held and hasn't ended; nothing held: nothing.
 pub fn held(t: &[u8], time: u64, out: &mut [u8]) -> Result<usize, Refusal>
@@ -17,6 +18,6 @@ pub fn held(t: &[u8], time: u64, out: &mut [u8]) -> Result<usize, Refusal>
     if !is_held(t, time) {
         return Ok(0);
     }
-    cells::copy(out, 0, &t[304..346]);
+    cells::copy(out, 0, &t[LEASE..KIND]);
     Ok(42)
 }

@@ -11,6 +11,7 @@ ghost use Rattle.requester.specs.Written.{Open, exchange_in, HeadOf, first_for, 
 use print::message::{Head, write_message};
 use rules::Kind;
 use state::reads::open_kind;
+use state::{DUID, IAID, NEXT, SENT, SERVER, WANTED};
 use values::{IaPrefix, Pd};
 
 // The kind of the open exchange.
@@ -38,7 +39,7 @@ fn head_of(t: &[u8]) -> Head
     ensures { HeadOf (router_of t.now) result }
 {
     let kind = kind_of(t);
-    let next = cells::get(t, 32, 4);
+    let next = cells::get(t, NEXT, 4);
     Head {
         kind: u8::from(kind),
         number: ((next + 0xFF_FFFF) % 0x100_0000) as u32,
@@ -55,7 +56,7 @@ fn wanted(t: &[u8]) -> IaPrefix
     requires { length t.now ≡ 384 }
     ensures { listed_of result [] ≡ first_for (router_of t.now).wanted None }
 {
-    let length = cells::get(t, 36, 1) as usize;
+    let length = cells::get(t, WANTED, 1) as usize;
     let bits = [0u8; 16];
     IaPrefix {
         preferred: 0,
@@ -72,10 +73,10 @@ fn carried(t: &[u8]) -> IaPrefix
     requires { length t.now ≡ 384 }
     ensures { listed_of result [] ≡ first_for 0 (Some (lease_of (part 347 34 t.now))) }
 {
-    let bits = cells::bytes_at(t, 347);
-    let length = cells::get(t, 363, 1) as usize;
-    let out = cells::bytes_at(t, 364);
-    let cut = cells::get(t, 380, 1) as usize;
+    let bits = cells::bytes_at(t, SENT);
+    let length = cells::get(t, SENT + 16, 1) as usize;
+    let out = cells::bytes_at(t, SENT + 17);
+    let cut = cells::get(t, SENT + 33, 1) as usize;
     IaPrefix {
         preferred: 0,
         valid: 0,
@@ -103,7 +104,7 @@ fn count_of(t: &[u8]) -> usize
     ensures { result ≡ length (lists (router_of t.now).wanted (exchange_in (router_of t.now)).sent) }
 {
     match kind_of(t) {
-        Kind::Solicit | Kind::Request => usize::from(cells::get(t, 36, 1) != 0),
+        Kind::Solicit | Kind::Request => usize::from(cells::get(t, WANTED, 1) != 0),
         Kind::Renew | Kind::Rebind | Kind::Release => 1,
     }
 }
@@ -115,7 +116,7 @@ fn pd_of(t: &[u8]) -> Pd
 {
     let x = first_of(t);
     let prefixes = [x; 5];
-    let iaid = cells::get(t, 37, 4) as u32;
+    let iaid = cells::get(t, IAID, 4) as u32;
     Pd {
         iaid,
         t1: 0,
@@ -134,7 +135,7 @@ pub fn put_open(out: &mut [u8], t: &[u8]) -> usize
 {
     let h = head_of(t);
     let d = pd_of(t);
-    let c = 42 + cells::get(t, 41, 1) as usize;
-    let s = 173 + cells::get(t, 172, 1) as usize;
-    write_message(out, h, &t[42..c], &t[173..s], d)
+    let c = DUID + 1 + cells::get(t, DUID, 1) as usize;
+    let s = SERVER + 1 + cells::get(t, SERVER, 1) as usize;
+    write_message(out, h, &t[DUID + 1..c], &t[SERVER + 1..s], d)
 }

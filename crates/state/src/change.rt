@@ -9,6 +9,9 @@ ghost use Rattle.rules.specs.RouterBytes.{duid_bytes, held_bytes, sent_bytes, ro
 ghost use Rattle.laws.specs.RouterChange.{fresh, server_given, stamped};
 
 use crate::reads::{is_held, open_kind};
+use crate::{
+    BEGAN, DUID, END, FREED, HELD, IAID, KIND, LAST, LEASE, NEXT, SENT, SERVER, STARTED, WANTED,
+};
 use rules::Kind;
 
 // A DUID behind its length, with zeros after it up to 130.
@@ -25,10 +28,10 @@ fn stamp(t: &mut [u8], start: u64)
     requires { length t.old ≡ 384 }
     ensures { t.new ≡ stamped start t.old }
 {
-    cells::put(t, 0, 8, start);
-    cells::put(t, 8, 8, start);
-    cells::put(t, 16, 8, start);
-    cells::put(t, 24, 8, start);
+    cells::put(t, LAST, 8, start);
+    cells::put(t, STARTED, 8, start);
+    cells::put(t, BEGAN, 8, start);
+    cells::put(t, FREED, 8, start);
 }
 
 // A fresh state. Its last sending of a Release is its start.
@@ -38,9 +41,9 @@ pub fn start(t: &mut [u8], duid: &[u8], iaid: u32, wanted: u64, time: u64)
 {
     cells::clear(t, 0, 384);
     stamp(t, time);
-    cells::put(t, 36, 1, wanted);
-    cells::put(t, 37, 4, iaid as u64);
-    put_duid(t, 41, duid);
+    cells::put(t, WANTED, 1, wanted);
+    cells::put(t, IAID, 4, iaid as u64);
+    put_duid(t, DUID, duid);
 }
 
 // The held delegation while its end hasn't come. None: zeros.
@@ -51,7 +54,7 @@ fn lease(t: &[u8], time: u64) -> [u8; 34]
     if !is_held(t, time) {
         return [0u8; 34];
     }
-    <[u8; 34]>::try_from(&t[304..338]).unwrap()
+    <[u8; 34]>::try_from(&t[LEASE..END]).unwrap()
 }
 
 // The delegation that a message of that kind carries.
@@ -70,9 +73,9 @@ fn date(t: &mut [u8], time: u64, next: u64)
     requires { length t.old ≡ 384 }
     ensures { t.new ≡ splice 32 (be 4 next) (splice 16 (be 8 time) (splice 0 (be 8 time) t.old)) }
 {
-    cells::put(t, 0, 8, time);
-    cells::put(t, 16, 8, time);
-    cells::put(t, 32, 4, next);
+    cells::put(t, LAST, 8, time);
+    cells::put(t, BEGAN, 8, time);
+    cells::put(t, NEXT, 4, next);
 }
 
 // The open exchange, by its kind's type and the delegation that it sends.
@@ -80,8 +83,8 @@ fn open(t: &mut [u8], kind: Kind, sent: [u8; 34])
     requires { length t.old ≡ 384 }
     ensures { t.new ≡ splice 346 (type_of kind ∷ sent) t.old }
 {
-    cells::put(t, 346, 1, u64::from(u8::from(kind)));
-    cells::copy(t, 347, &sent);
+    cells::put(t, KIND, 1, u64::from(u8::from(kind)));
+    cells::copy(t, SENT, &sent);
 }
 
 // The last sending of a Release, and nothing held.
@@ -89,8 +92,8 @@ fn free(t: &mut [u8], time: u64)
     requires { length t.old ≡ 384 }
     ensures { t.new ≡ splice 303 (replicate 43 0) (splice 24 (be 8 time) t.old) }
 {
-    cells::put(t, 24, 8, time);
-    cells::clear(t, 303, 43);
+    cells::put(t, FREED, 8, time);
+    cells::clear(t, HELD, 43);
 }
 
 // A new exchange of that kind.
@@ -99,7 +102,7 @@ pub fn begin(t: &mut [u8], kind: Kind, time: u64)
     ensures { t.new ≡ router_bytes (begun kind (router_of t.old) time) }
 {
     let sent = carried(t, kind, time);
-    let next = (cells::get(t, 32, 4) + 1) % 0x100_0000;
+    let next = (cells::get(t, NEXT, 4) + 1) % 0x100_0000;
     date(t, time, next);
     open(t, kind, sent);
     if kind == Kind::Release {
@@ -113,9 +116,9 @@ pub fn again(t: &mut [u8], time: u64)
     ensures { t.new ≡ router_bytes (again (router_of t.old) time (open_of (router_of t.old).exchange)) }
 {
     let kind = open_kind(t);
-    cells::put(t, 0, 8, time);
+    cells::put(t, LAST, 8, time);
     if kind == Some(Kind::Release) {
-        cells::put(t, 24, 8, time);
+        cells::put(t, FREED, 8, time);
     }
 }
 
@@ -124,8 +127,8 @@ fn finish(t: &mut [u8], time: u64)
     requires { length t.old ≡ 384 }
     ensures { t.new ≡ splice 346 (replicate 35 0) (splice 0 (be 8 time) t.old) }
 {
-    cells::put(t, 0, 8, time);
-    cells::clear(t, 346, 35);
+    cells::put(t, LAST, 8, time);
+    cells::clear(t, KIND, 35);
 }
 
 // The open exchange abandoned.
@@ -142,9 +145,9 @@ pub fn accept(t: &mut [u8], time: u64, server: &[u8], held: [u8; 43])
     ensures { (o : Option Hold) → held ≡ held_bytes o
         → t.new ≡ router_bytes (closed (router_of t.old) time (server_given (router_of t.old).server server.now) o) }
 {
-    cells::copy(t, 303, &held);
+    cells::copy(t, HELD, &held);
     finish(t, time);
     if !server.is_empty() {
-        put_duid(t, 172, server);
+        put_duid(t, SERVER, server);
     }
 }

@@ -6,12 +6,14 @@ ghost use Rattle.rules.specs.Words.{num, splice, be};
 ghost use Rattle.rules.specs.RouterBytes.{held_bytes, router_of, sound_router_bytes};
 ghost use Rattle.laws.specs.RouterChange.{hold_given};
 
+use crate::{HELD, KIND};
+
 // What is held.
 pub fn kept(t: &[u8]) -> [u8; 43]
     requires { sound_router_bytes t.now ≡ true }
     ensures { result ≡ held_bytes (router_of t.now).held }
 {
-    <[u8; 43]>::try_from(&t[303..346]).unwrap()
+    <[u8; 43]>::try_from(&t[HELD..KIND]).unwrap()
 }
 
 // The excluded prefix and its length.

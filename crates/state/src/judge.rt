@@ -3,6 +3,7 @@ ghost use Rattle.std.specs.Prelude.{◌≡◌};
 ghost use Rattle.laws.specs.Refusals.{refused_by};
 ghost use Rattle.state.specs.Judged.{by_state};
 
+use crate::LAST;
 use rules::Refusal;
 
 // 9, 1.
@@ -15,7 +16,7 @@ pub fn by_state(t: &[u8], time: u64) -> Result<(), Refusal>
     if !crate::sound(s) {
         return Err(Refusal::Unsound);
     }
-    let last = cells::get(s, 0, 8);
+    let last = cells::get(s, LAST, 8);
     if (time < last) | (0x1_0000_0000_0000 <= time) {
         return Err(Refusal::Time);
     }

@@ -15,7 +15,37 @@ ghost use Rattle.laws.specs.RouterFlat.{except_in, lease_in, server_in, held_in,
 
 use rules::Kind;
 
+// Where each thing stands in the state, as crates/rules/specs/RouterBytes.antt lays it out.
+pub const LAST: usize = 0; // the last time, 8 bytes
+
+pub const STARTED: usize = 8; // the start, 8
+
+pub const BEGAN: usize = 16; // the beginning of the latest exchange, 8
+
+pub const FREED: usize = 24; // the last sending of a Release, 8
+
+pub const NEXT: usize = 32; // the next transaction number, 4
+
+pub const WANTED: usize = 36; // the wanted length, 1
+
+pub const IAID: usize = 37; // 4
+
+pub const DUID: usize = 41; // its length 1, 130
+
+pub const SERVER: usize = 172; // the length of the server's DUID 1, 130
+
+pub const HELD: usize = 303; // whether a prefix is held, 1
+
+pub const LEASE: usize = 304; // the delegation held, 34
+
+pub const END: usize = 338; // its end, 8
+
+pub const KIND: usize = 346; // the type of the open exchange, 1
+
+pub const SENT: usize = 347; // the delegation that it sends, 34
+
 // The n bytes from `at` are a DUID, and zeros follow up to 130.
+// The box's twin (sound::good_duid) stays apart: what is below both, cells, knows bytes and no DUIDs, and that one is a bar of speed.
 fn good_duid(t: &[u8], at: usize, n: usize) -> bool
     requires { at + 130 ≤ length t.now }
     ensures { result ≡ duid_in at n t.now }
@@ -41,6 +71,7 @@ fn good_except(t: &[u8], at: usize) -> bool
 }
 
 // The 34 bytes from `at` are a good delegation.
+#[tactic(auto, unfolding(laws::specs::RouterFlat::lease_in))]
 fn good_lease(t: &[u8], at: usize) -> bool
     requires { at + 34 ≤ length t.now }
     ensures { result ≡ lease_in at t.now }
@@ -51,15 +82,16 @@ fn good_lease(t: &[u8], at: usize) -> bool
 }
 
 // The times, the transaction number and the wanted length.
+#[tactic(auto, unfolding(laws::specs::RouterFlat::numbers_in))]
 fn good_numbers(t: &[u8; 384]) -> bool
     ensures { result ≡ numbers_in t.now }
 {
-    let wanted = cells::get(t, 36, 1);
-    let started = cells::get(t, 8, 8);
-    let began = cells::get(t, 16, 8);
-    let freed = cells::get(t, 24, 8);
-    let last = cells::get(t, 0, 8);
-    let next = cells::get(t, 32, 4);
+    let wanted = cells::get(t, WANTED, 1);
+    let started = cells::get(t, STARTED, 8);
+    let began = cells::get(t, BEGAN, 8);
+    let freed = cells::get(t, FREED, 8);
+    let last = cells::get(t, LAST, 8);
+    let next = cells::get(t, NEXT, 4);
     (wanted <= 64)
         & (started <= last)
         & (began <= last)
@@ -72,26 +104,26 @@ fn good_numbers(t: &[u8; 384]) -> bool
 fn good_server(t: &[u8; 384]) -> bool
     ensures { result ≡ server_in t.now }
 {
-    let n = cells::get(t, 172, 1) as usize;
+    let n = cells::get(t, SERVER, 1) as usize;
     if n == 0 {
-        return cells::all_zero(t, 172, 131);
+        return cells::all_zero(t, SERVER, 131);
     }
-    good_duid(t, 173, n)
+    good_duid(t, SERVER + 1, n)
 }
 
 // The hold, or none. Anything held has a server.
 fn good_held(t: &[u8; 384]) -> bool
     ensures { result ≡ held_in t.now }
 {
-    let held = cells::get(t, 303, 1);
+    let held = cells::get(t, HELD, 1);
     if held == 0 {
-        return cells::all_zero(t, 303, 43);
+        return cells::all_zero(t, HELD, 43);
     }
-    let server = cells::get(t, 172, 1);
-    let end = cells::get(t, 338, 8);
+    let server = cells::get(t, SERVER, 1);
+    let end = cells::get(t, END, 8);
     (held == 1)
         & (server != 0)
-        & good_lease(t, 304)
+        & good_lease(t, LEASE)
         & ((end < 0x2_0000_0000_0000) | (end == 0xFFFF_FFFF_FFFF_FFFF))
 }
 
@@ -100,12 +132,12 @@ fn good_open(t: &[u8; 384], kind: Kind) -> bool
     requires { num_at t.now 346 1 ≡ type_of kind }
     ensures { result ≡ exchange_in t.now }
 {
-    let server = cells::get(t, 172, 1) != 0;
+    let server = cells::get(t, SERVER, 1) != 0;
     match kind {
-        Kind::Solicit => cells::all_zero(t, 347, 34),
-        Kind::Request => server & cells::all_zero(t, 347, 34),
-        Kind::Rebind => good_lease(t, 347),
-        Kind::Renew | Kind::Release => server & good_lease(t, 347),
+        Kind::Solicit => cells::all_zero(t, SENT, 34),
+        Kind::Request => server & cells::all_zero(t, SENT, 34),
+        Kind::Rebind => good_lease(t, SENT),
+        Kind::Renew | Kind::Release => server & good_lease(t, SENT),
     }
 }
 
@@ -113,10 +145,10 @@ fn good_open(t: &[u8; 384], kind: Kind) -> bool
 fn good_exchange(t: &[u8; 384]) -> bool
     ensures { result ≡ exchange_in t.now }
 {
-    let k = cells::get(t, 346, 1);
+    let k = cells::get(t, KIND, 1);
     match Kind::try_from(k as u8) {
         Ok(kind) => good_open(t, kind),
-        Err(_) => (k == 0) & cells::all_zero(t, 347, 34),
+        Err(_) => (k == 0) & cells::all_zero(t, SENT, 34),
     }
 }
 
@@ -124,9 +156,9 @@ fn good_exchange(t: &[u8; 384]) -> bool
 pub fn sound(t: &[u8; 384]) -> bool
     ensures { result ≡ sound_router_bytes t.now }
 {
-    let n = cells::get(t, 41, 1) as usize;
+    let n = cells::get(t, DUID, 1) as usize;
     good_numbers(t)
-        & good_duid(t, 42, n)
+        & good_duid(t, DUID + 1, n)
         & good_server(t)
         & good_held(t)
         & good_exchange(t)
