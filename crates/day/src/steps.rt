@@ -2,10 +2,23 @@
 ghost use Rattle.std.specs.Prelude.{◌+◌, ◌≤◌, length};
 
 use crate::words::{bytes, number};
-use delegator::handling::handle;
+use rules::Refusal;
 use show::{say, say_hex, say_number};
 use std::io;
 use std::io::Print;
+
+// The word of an operation: the length of what it wrote, or the refusal's number times 65,536.
+fn word(r: Result<usize, Refusal>) -> u64 {
+    match r {
+        Ok(n) => n as u64,
+        Err(e) => u64::from(e) << 16,
+    }
+}
+
+// A message handled, and its word.
+fn handle(table: &mut [u8; 39344], time: u64, message: &[u8], room: &mut [u8]) -> u64 {
+    word(delegator::handling::handle(table, time, message, room))
+}
 
 // Whether the room from a place on is as it was lent.
 fn as_lent(room: &[u8], from: usize) -> bool {
@@ -40,7 +53,7 @@ fn tell(rt: &impl Print, word: u64, room: &[u8]) -> io::Result<()> {
 fn begin(rt: &impl Print, table: &mut [u8; 39344], line: &[u8]) -> io::Result<()> {
     let mut room = [0u8; 4096];
     let n = bytes(line, 8, &mut room);
-    let word = delegator::opening::start(
+    let word = word(delegator::opening::start(
         table,
         number(line, 1, 16),
         0,
@@ -52,7 +65,7 @@ fn begin(rt: &impl Print, table: &mut [u8; 39344], line: &[u8]) -> io::Result<()
         number(line, 7, 10) == 1,
         &room[..n],
         number(line, 9, 10),
-    );
+    ));
     if word == 0 {
         say(rt, b"started")?;
     }
@@ -60,7 +73,7 @@ fn begin(rt: &impl Print, table: &mut [u8; 39344], line: &[u8]) -> io::Result<()
 }
 
 fn count(rt: &impl Print, table: &[u8; 39344], time: u64) -> io::Result<()> {
-    let word = delegator::showing::live(table, time);
+    let word = word(delegator::showing::live(table, time));
     if word < 65536 {
         say(rt, b"live ")?;
         say_number(rt, word as usize)?;

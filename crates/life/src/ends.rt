@@ -1,9 +1,18 @@
 // The two ends: each operation with its line.
 use crate::speak::{say_at, say_end, say_message, say_type};
 use crate::texts::{part, text};
+use rules::Refusal;
 use show::{say, say_number};
 use std::io;
 use std::io::Print;
+
+// The word of an operation: the length of what it wrote, or the refusal's number times 65,536.
+fn word(r: Result<usize, Refusal>) -> u64 {
+    match r {
+        Ok(n) => n as u64,
+        Err(e) => u64::from(e) << 16,
+    }
+}
 
 // Pool 2001:db8:0:aa00::/56, S 56, D 60, preferred 601, valid 900, exclusion on.
 pub fn box_starts(
@@ -12,7 +21,7 @@ pub fn box_starts(
     duid: &[u8],
     time: u64,
 ) -> io::Result<()> {
-    let word = delegator::opening::start(
+    let word = word(delegator::opening::start(
         table,
         0x2001_0db8_0000_aa00,
         0,
@@ -24,7 +33,7 @@ pub fn box_starts(
         true,
         duid,
         time,
-    );
+    ));
     say_at(rt, time, b" box starts, DUID of ")?;
     say_number(rt, duid.len())?;
     say(rt, b" bytes")?;
@@ -39,7 +48,7 @@ pub fn box_hears(
     how: &[u8],
     answer: &mut [u8; 512],
 ) -> io::Result<u64> {
-    let word = delegator::handling::handle(table, time, msg, answer);
+    let word = word(delegator::handling::handle(table, time, msg, answer));
     say_at(rt, time, b" box hears: ")?;
     say_message(rt, msg, how)?;
     say_end(rt, word, text(answer, word), b"done")?;
@@ -48,14 +57,14 @@ pub fn box_hears(
 
 pub fn box_counts(rt: &impl Print, table: &[u8; 39344], time: u64) -> io::Result<()> {
     say_at(rt, time, b" box has live: ")?;
-    say_number(rt, delegator::showing::live(table, time) as usize)?;
+    say_number(rt, word(delegator::showing::live(table, time)) as usize)?;
     say(rt, b"\n")
 }
 
 // The first record, up to a DUID's first ten bytes.
 pub fn box_shows(rt: &impl Print, table: &[u8; 39344], time: u64) -> io::Result<()> {
     let mut room = [0u8; 153];
-    let word = delegator::showing::record_at(table, 0, &mut room);
+    let word = word(delegator::showing::record_at(table, 0, &mut room));
     say_at(rt, time, b" box's first record")?;
     say_end(rt, word, part(&room, 33), b"none")
 }

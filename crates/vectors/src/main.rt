@@ -2,6 +2,7 @@
 #![tactic(auto)]
 
 use lone::{IdRead, MessageRead};
+use rules::Refusal;
 use show::{say, say_hex, say_number};
 use std::io;
 use std::io::Print;
@@ -42,11 +43,19 @@ fn exclude(rt: &impl Print, name: &[u8], p: u64, a: usize, text: &[u8]) -> io::R
     say(rt, b"\n")
 }
 
+// The word of an operation: the length of what it wrote, or the refusal's number times 65,536.
+fn word(r: Result<usize, Refusal>) -> u64 {
+    match r {
+        Ok(n) => n as u64,
+        Err(e) => u64::from(e) << 16,
+    }
+}
+
 // What the PD Exclude for e of length b inside p of length a is written as, into eight bytes of ee: the room, or the number
 // that refuses it.
 fn write(rt: &impl Print, name: &[u8], p: u64, a: usize, e: [u8; 16], b: usize) -> io::Result<()> {
     let mut room = [0xeeu8; 8];
-    let word = print::lone::write_exclude(&mut room, bits(p, 0), a, e, b);
+    let word = word(print::lone::write_exclude(&mut room, bits(p, 0), a, e, b));
     say(rt, name)?;
     if word < 65536 {
         say(rt, b" writes ")?;
