@@ -85,11 +85,8 @@ pub fn all_returned(ps: [IaPrefix; 5], n: usize) -> Listing
     ensures { (first_listed result.count result.prefixes ≡ map returned (first_listed n ps)) × (result.count ≤ 5) }
 {
     let mut out = ps;
-    let mut i = 0;
-    while i < n {
-        let x = ps[i];
-        out[i] = returned(x);
-        i += 1;
+    for i in 0..n {
+        out[i] = returned(ps[i]);
     }
     Listing {
         count: n,
@@ -105,14 +102,12 @@ pub fn others(first: IaPrefix, ps: [IaPrefix; 5], n: usize, p: u64, a: u64) -> L
     let mut out = ps;
     out[0] = first;
     let mut k = 1;
-    let mut i = 0;
-    while i < n {
+    for i in 0..n {
         let x = ps[i];
         if !is_prefix(x, p, a) {
             out[k] = returned(x);
             k += 1;
         }
-        i += 1;
     }
     Listing {
         count: k,
