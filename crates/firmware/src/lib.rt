@@ -9,7 +9,7 @@ ghost use Rattle.delegator.specs.Given.{given};
 
 use rules::{Kind, Refusal};
 
-// The word for C: how much was written, or the refusal's number times 65,536.
+// The word that C is given: the length of what was written, or the refusal's number times 65,536.
 fn word(r: Result<usize, Refusal>) -> u64
     ensures { result ≡ word_of r }
 {
@@ -37,9 +37,9 @@ pub extern "C" fn pd_box_start(
 ) -> u64
     ensures { ended result table.new [] ≡ box_started table.old (given high low width shortest standard preferred valid exclusion duid.now) time }
 {
-    delegator::opening::start(
+    word(delegator::opening::start(
         table, high, low, width, shortest, standard, preferred, valid, exclusion, duid, time,
-    )
+    ))
 }
 
 #[unsafe(no_mangle)]
@@ -51,21 +51,21 @@ pub extern "C" fn pd_box_handle(
 ) -> u64
     ensures { ended result table.new answer.new ≡ box_handled table.old time message.now answer.old }
 {
-    delegator::handling::handle(table, time, message, answer)
+    word(delegator::handling::handle(table, time, message, answer))
 }
 
 #[unsafe(no_mangle)]
 pub extern "C" fn pd_box_live(table: &[u8; 39344], time: u64) -> u64
     ensures { result ≡ box_counted table.now time }
 {
-    delegator::showing::live(table, time)
+    word(delegator::showing::live(table, time))
 }
 
 #[unsafe(no_mangle)]
 pub extern "C" fn pd_box_record(table: &[u8; 39344], index: u64, room: &mut [u8]) -> u64
     ensures { ended result table.now room.new ≡ box_shown table.now index room.old }
 {
-    delegator::showing::record_at(table, index as usize, room)
+    word(delegator::showing::record_at(table, index as usize, room))
 }
 
 // ---------------------------------------------------------------- the router

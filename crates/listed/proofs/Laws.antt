@@ -1,14 +1,15 @@
 -- Laws that only these proofs need: the excluded prefix of one that is listed, and those that are returned, one turn at a time.
 use mathlib.Core.Path.{◌≡◌, refl, sym, ap, ◌∙◌}
 use mathlib.Core.Bool.{Bool, true, false, ◌&&◌}
-use mathlib.Core.List.{List, ◌∷◌, ◌++◌, map, append-nil}
+use mathlib.Core.List.{List, [], ◌∷◌, ◌++◌, map, append-nil}
 use Rattle.std.specs.Prelude.{Option}
+use Rattle.std.specs.List.{list_any, list_all}
 use Prim.Native.Nat.{ℕ, ◌+◌, ◌*◌, ◌^◌, ◌≤◌, ◌<◌}
 use native.Mathlib.Omega.{arith}
 use lib.Dec.{eqb}
 use lib.ListN.{length, get_or, set}
 use borrow.Author.Tests.{eq-eqb, ne_eqb}
-use Rattle.rules.specs.Words.{num}
+use Rattle.rules.specs.Words.{all, any, num}
 use Rattle.rules.specs.Prefix.{Prefix, same_prefix, last64, except_for}
 use Rattle.rules.specs.Message.{Listed}
 use Rattle.rules.specs.Box.{returned, others, same_except}
@@ -17,13 +18,15 @@ use Rattle.values.specs.Values.{except_of, lease_of, listed_of, first_listed}
 use Rattle.values.specs.Listed.{blank, bare, rest_listed, rest-turn, rest_end, put_next}
 use Rattle.values.specs.declared.IaPrefix.{IaPrefix}
 
-pub and-true : (a : Bool) {b : Bool} → b ≡ true → a ≡ a && b
-and-true true e = sym e
-and-true false e = refl
+-- the library's tests of a list, as the rules have them
+module _ (f : Listed → Bool) where
+  pub list-any : (xs : List IaPrefix) → list_any (λ x. f (bare x)) xs ≡ any f (map bare xs)
+  list-any [] = refl
+  list-any (x ∷ xs) = rw (list-any xs)
 
-pub and-false : (a : Bool) {b : Bool} → b ≡ false → false ≡ a && b
-and-false true e = sym e
-and-false false e = refl
+  pub list-all : (xs : List IaPrefix) → list_all (λ x. f (bare x)) xs ≡ all f (map bare xs)
+  list-all [] = refl
+  list-all (x ∷ xs) = rw (list-all xs)
 
 module _ (x : IaPrefix) where
   pub goes-whole : (e : Option Prefix) → x.cut ≡ 0 → true ≡ same_except (bare x).lease.except e

@@ -30,15 +30,7 @@ pub fn some_is(ps: [IaPrefix; 5], n: usize, p: u64, a: u64) -> bool
     requires { n ≤ 5 }
     ensures { result ≡ any (λ x. same_prefix x.lease.prefix (upper p a)) (first_listed n ps) }
 {
-    let mut i = 0;
-    while i < n {
-        let x = ps[i];
-        if is_prefix(x, p, a) {
-            return true;
-        }
-        i += 1;
-    }
-    false
+    ps[..n].iter().any(|x| is_prefix(*x, p, a))
 }
 
 // Whether the excluded prefix that x has, if any, is the last /64 of p of length a, and that is excluded.
@@ -58,15 +50,7 @@ pub fn all_go_with(ps: [IaPrefix; 5], n: usize, p: u64, a: u64, excluded: bool) 
     requires { (n ≤ 5) × (a ≤ 64) × (zero_after (upper p a) ≡ true) }
     ensures { result ≡ all (λ x. same_except x.lease.except (except_for excluded (upper p a))) (first_listed n ps) }
 {
-    let mut i = 0;
-    while i < n {
-        let x = ps[i];
-        if !goes_with(x, p, a, excluded) {
-            return false;
-        }
-        i += 1;
-    }
-    true
+    ps[..n].iter().all(|x| goes_with(*x, p, a, excluded))
 }
 
 // Whether at least one is listed, and none of the first n lies in the pool.
@@ -74,16 +58,10 @@ pub fn gone(ps: [IaPrefix; 5], n: usize, pool: u64, width: u64) -> bool
     requires { n ≤ 5 }
     ensures { result ≡ ltb 0 n && all (λ x. not (inside x.lease.prefix (upper pool width))) (first_listed n ps) }
 {
-    let mut i = 0;
-    while i < n {
-        let x = ps[i];
-        let q = x.bits;
-        if prefix::whole::inside16(q, x.length, pool, width) {
-            return false;
-        }
-        i += 1;
-    }
-    0 < n
+    (0 < n)
+        & ps[..n]
+            .iter()
+            .all(|x| !prefix::whole::inside16(x.bits, x.length, pool, width))
 }
 
 // As it is returned: lifetimes 0, length and bits as sent, and no options.
@@ -107,11 +85,8 @@ pub fn all_returned(ps: [IaPrefix; 5], n: usize) -> Listing
     ensures { (first_listed result.count result.prefixes ≡ map returned (first_listed n ps)) × (result.count ≤ 5) }
 {
     let mut out = ps;
-    let mut i = 0;
-    while i < n {
-        let x = ps[i];
-        out[i] = returned(x);
-        i += 1;
+    for i in 0..n {
+        out[i] = returned(ps[i]);
     }
     Listing {
         count: n,
@@ -127,14 +102,12 @@ pub fn others(first: IaPrefix, ps: [IaPrefix; 5], n: usize, p: u64, a: u64) -> L
     let mut out = ps;
     out[0] = first;
     let mut k = 1;
-    let mut i = 0;
-    while i < n {
+    for i in 0..n {
         let x = ps[i];
         if !is_prefix(x, p, a) {
             out[k] = returned(x);
             k += 1;
         }
-        i += 1;
     }
     Listing {
         count: k,

@@ -3,6 +3,7 @@ use mathlib.Core.Path.{◌≡◌, refl, ap, sym, ◌∙◌}
 use mathlib.Core.Bool.{Bool, true, false, cond, not, ◌&&◌, ◌||◌}
 use mathlib.Core.List.{List, [], ◌∷◌, ◌++◌, map}
 use Rattle.std.specs.Prelude.{None, Some, Result, Ok, Err}
+use Rattle.std.specs.List.{list_all}
 use Prim.Native.Nat.{ℕ, ◌+◌, ◌*◌, ◌^◌, ◌≤◌, ◌<◌}
 use native.Mathlib.Omega.{arith}
 use borrow.Author.Tests.{lt-ltb, le-ltb, le-leb, leb-true, ltb-true, ltb-false}
@@ -29,9 +30,9 @@ use Rattle.laws.specs.Writes.{Wrote, wrote-whole}
 use Rattle.values.specs.Values.{except_of, lease_of, listed_of, lease_encodes, first_listed, ia_of, Able}
 use Rattle.values.specs.declared.IaPrefix.{IaPrefix}
 use Rattle.values.specs.declared.Pd.{Pd}
-use Rattle.print.specs.Bytes.{prefix_bytes}
+use Rattle.print.specs.Bytes.{prefix_bytes, prefixes_bytes}
 use Rattle.print.specs.Lone.{refusal_of, Trimmed}
-use Rattle.print.proofs.Laws.{status-named, status-nameless, exclude-size, listed-few, cut-none, cut-some, prefix-size, blank, rest_bytes, first-turn, first-end, rest-first, first-few, said-few, ia-size}
+use Rattle.print.proofs.Laws.{status-named, status-nameless, exclude-size, listed-few, cut-none, cut-some, prefix-size, blank, rest-first, first-few, said-few, ia-size}
 
 -- ---------------------------------------------------------------- how long they are
 
@@ -50,9 +51,9 @@ module _ (x : IaPrefix) where
       prefix-size x ∙ ap (λ (l : List ℕ). 29 + length l) (cut-some x h)
       ∙ omega (arith, exclude-size x.length (prefix (num x.out) x.cut))
 
-pub rest-size : (n i : ℕ) (xs : List IaPrefix) → n ≤ length xs → i < n
-    → length (rest_bytes i n xs) ≡ length (prefix_bytes (get_or xs i blank)) + length (rest_bytes (i + 1) n xs)
-rest-size n i xs h l = ap length (rest-first n i xs h l) ∙ length-append (prefix_bytes (get_or xs i blank)) (rest_bytes (i + 1) n xs)
+pub rest-size : (i : ℕ) (xs : List IaPrefix) → i < length xs
+    → length (prefixes_bytes (drop i xs)) ≡ length (prefix_bytes (get_or xs i blank)) + length (prefixes_bytes (drop (i + 1) xs))
+rest-size i xs l = ap length (rest-first i xs l) ∙ length-append (prefix_bytes (get_or xs i blank)) (prefixes_bytes (drop (i + 1) xs))
 
 -- ---------------------------------------------------------------- which have an encoding
 
@@ -80,22 +81,9 @@ pub encodes-lease : (x : IaPrefix) → listed_encodes (listed_of x []) ≡ true 
 unfolding listed_of
 encodes-lease x h = (both (ltb x.preferred (2 ^ 32) && ltb x.valid (2 ^ 32)) (lease_encodes x) (both (ltb x.preferred (2 ^ 32) && ltb x.valid (2 ^ 32) && lease_encodes x) true h).0).1
 
--- the first n, from place i on
-abbrev pub rest_encodes : ℕ → ℕ → List IaPrefix → Bool
-rest_encodes i n xs = all listed_encodes (map (λ x. listed_of x []) (drop i (take n xs)))
-
-module _ (n i : ℕ) (xs : List IaPrefix) (h : n ≤ length xs) where
-  encodes-turn : {b : Bool} → i < n → b ≡ listed_encodes (listed_of (get_or xs i blank) []) → rest_encodes i n xs ≡ b && rest_encodes (i + 1) n xs
-  encodes-turn l e = rw (first-turn n i xs h l, e)
-
-  pub encodes-stop : {b : Bool} → i < n → b ≡ listed_encodes (listed_of (get_or xs i blank) []) → b ≡ false → rest_encodes i n xs ≡ false
-  encodes-stop {b} l e t = encodes-turn l e ∙ rw t
-
-  pub encodes-go : {b : Bool} → i < n → b ≡ listed_encodes (listed_of (get_or xs i blank) []) → b ≡ true → rest_encodes i n xs ≡ rest_encodes (i + 1) n xs
-  encodes-go {b} l e t = encodes-turn l e ∙ rw t
-
-  pub encodes-end : n ≤ i → rest_encodes i n xs ≡ true
-  encodes-end l = rw (first-end n i xs h l)
+pub list-all : (xs : List IaPrefix) → list_all (λ x. listed_encodes (listed_of x [])) xs ≡ all listed_encodes (map (λ x. listed_of x []) xs)
+list-all [] = refl
+list-all (x ∷ xs) = rw (list-all xs)
 
 -- what has an encoding isn't too long
 able-few : (able : Bool) (s : List ℕ) → (able ≡ true → length s ≤ 65535) → able && leb (length s) 65535 ≡ able

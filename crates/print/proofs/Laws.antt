@@ -8,7 +8,7 @@ use native.Mathlib.Omega.{arith}
 use borrow.Author.Tests.{eq-eqb, ne_eqb, leb-true}
 use lib.Dec.{leb, ltb}
 use lib.ListN.{length, get_or, take, drop, length-append, length-take, length-map, drop_of_length-le}
-use lib.Seq.{drop-cons, get_or-take, length-take-le}
+use lib.Seq.{drop-cons}
 use Rattle.rules.specs.Words.{all, cons_if, num, be, be16}
 use Rattle.rules.specs.Prefix.{Prefix, prefix, fits, bytes_for, exclude_bytes, encodable}
 use Rattle.rules.specs.Options.{option, item, printed}
@@ -23,7 +23,7 @@ use Rattle.laws.specs.Writes.{Left, left-room}
 use Rattle.values.specs.Values.{except_of, lease_of, listed_of, lease_encodes, first_listed, ia_of}
 use Rattle.values.specs.declared.IaPrefix.{IaPrefix}
 use Rattle.values.specs.declared.Pd.{Pd}
-use Rattle.print.specs.Bytes.{fixed_bytes, cut_bytes, prefix_bytes, first_bytes, three_bytes, said_bytes, pd_bytes, server_bytes, ids_bytes}
+use Rattle.print.specs.Bytes.{fixed_bytes, cut_bytes, prefix_bytes, prefixes_bytes, three_bytes, said_bytes, pd_bytes, server_bytes, ids_bytes}
 use Rattle.print.specs.Whole.{message_of}
 use Rattle.print.specs.declared.message.Head.{Head}
 
@@ -82,48 +82,32 @@ module _ (x : IaPrefix) where
     unfolding prefix_bytes
     cut-few = omega (arith, listed-few, option-length 26 (listed_bytes (listed_of x [])), prefix-size)
 
--- ---------------------------------------------------------------- the first IA Prefixes
+-- ---------------------------------------------------------------- IA Prefixes, one after the other
 
 -- what no place past the end has
 abbrev pub blank : IaPrefix
 blank = record { preferred = 0; valid = 0; length = 0; bits = []; cut = 0; out = [] }
 
--- those from place i on among the first n
-unfoldable pub rest_bytes : ℕ → ℕ → List IaPrefix → List ℕ
-rest_bytes i n xs = printed (map listed_item (map (λ x. listed_of x []) (drop i (take n xs))))
+-- those from place i on
+module _ (i : ℕ) (xs : List IaPrefix) where
+  pub rest-first : i < length xs → prefixes_bytes (drop i xs) ≡ prefix_bytes (get_or xs i blank) ++ prefixes_bytes (drop (i + 1) xs)
+  unfolding prefixes_bytes prefix_bytes printed
+  rest-first l = let e : drop i xs ≡ get_or xs i blank ∷ drop (i + 1) xs = rw (drop-cons xs i blank l, add-one) in rw e
 
-pub rest_all : (n : ℕ) (xs : List IaPrefix) → rest_bytes 0 n xs ≡ first_bytes n xs
-unfolding rest_bytes first_bytes
-rest_all n xs = refl
-
-module _ (n i : ℕ) (xs : List IaPrefix) (h : n ≤ length xs) where
-  pub first-turn : i < n → drop i (take n xs) ≡ get_or xs i blank ∷ drop (i + 1) (take n xs)
-  first-turn l =
-      let k : i < length (take n xs) = rw (length-take-le n xs h) l in
-      rw (drop-cons (take n xs) i blank k, get_or-take n xs i blank l, add-one)
-
-  pub first-end : n ≤ i → drop i (take n xs) ≡ []
-  first-end l = drop_of_length-le (take n xs) {i = i} (rw (length-take-le n xs h) l)
-
-  pub rest-first : i < n → rest_bytes i n xs ≡ prefix_bytes (get_or xs i blank) ++ rest_bytes (i + 1) n xs
-  unfolding rest_bytes prefix_bytes printed
-  rest-first l = rw (first-turn l)
-
-  pub rest-none : n ≤ i → rest_bytes i n xs ≡ []
-  unfolding rest_bytes printed
-  rest-none l = rw (first-end l)
+  pub rest-none : length xs ≤ i → prefixes_bytes (drop i xs) ≡ []
+  unfolding prefixes_bytes printed
+  rest-none l = rw (drop_of_length-le xs {i = i} l)
 
   -- what is left has room for the first of it
-  pub rest-room : {p at : ℕ} {s t d : List ℕ} → i < n → Left p (rest_bytes i n xs) t at s d → at + length s ≤ length d → length t ≡ length d
+  pub rest-room : {p at : ℕ} {s t d : List ℕ} → i < length xs → Left p (prefixes_bytes (drop i xs)) t at s d → at + length s ≤ length d → length t ≡ length d
       → p + length (prefix_bytes (get_or xs i blank)) ≤ length t
-  rest-room l k r e = left-room k (prefix_bytes (get_or xs i blank)) (rest_bytes (i + 1) n xs) (rest-first l) r e
+  rest-room l k r e = left-room k (prefix_bytes (get_or xs i blank)) (prefixes_bytes (drop (i + 1) xs)) (rest-first l) r e
 
 -- one of those that all pass a test
-pub all_first : {A : Type 0} (f : A → Bool) (d : A) (n i : ℕ) (xs : List A) → all f (take n xs) ≡ true → i < n → n ≤ length xs → f (get_or xs i d) ≡ true
-all_first f d n i [] e l h = absurd (omega arith)
-all_first f d zero i (x ∷ xs) e l h = absurd (omega arith)
-all_first f d (suc n) zero (x ∷ xs) e l h = (both (f x) (all f (take n xs)) e).0
-all_first f d (suc n) (suc i) (x ∷ xs) e l h = all_first f d n i xs (both (f x) (all f (take n xs)) e).1 (omega arith) (omega arith)
+pub all-one : {A : Type 0} (f : A → Bool) (d : A) (i : ℕ) (xs : List A) → all f xs ≡ true → i < length xs → f (get_or xs i d) ≡ true
+all-one f d i [] e l = absurd (omega arith)
+all-one f d zero (x ∷ xs) e l = (both (f x) (all f xs) e).0
+all-one f d (suc i) (x ∷ xs) e l = all-one f d i xs (both (f x) (all f xs) e).1 (omega arith)
 
 -- ---------------------------------------------------------------- an IA_PD
 
@@ -132,8 +116,8 @@ unfolding said_bytes
 said-few true k = statuses-most (k ∷ [])
 said-few false k = omega (arith, statuses-most [])
 
-pub first-few : (n : ℕ) (xs : List IaPrefix) → all lease_encodes (take n xs) ≡ true → n ≤ 5 → length (first_bytes n xs) ≤ 250
-unfolding first_bytes
+pub first-few : (n : ℕ) (xs : List IaPrefix) → all lease_encodes (take n xs) ≡ true → n ≤ 5 → length (prefixes_bytes (take n xs)) ≤ 250
+unfolding prefixes_bytes
 first-few n xs e h =
     let few : (x : IaPrefix) → lease_encodes x ≡ true → length (listed_bytes (listed_of x [])) ≤ 46 = λ x g. listed-few x g in
     let l : length (first_listed n xs) ≡ length (take n xs) = length-map (take n xs) (λ x. listed_of x []) in
@@ -144,15 +128,15 @@ first-few n xs e h =
     )
 
 module _ (d : Pd) where
-  pub ia-split : three_bytes d.iaid d.t1 d.t2 ++ (first_bytes d.count d.prefixes ++ said_bytes d.says d.status) ≡ ia_bytes (ia_of d)
-  unfolding three_bytes first_bytes said_bytes ia_bytes ia_of be
+  pub ia-split : three_bytes d.iaid d.t1 d.t2 ++ (prefixes_bytes (take d.count d.prefixes) ++ said_bytes d.says d.status) ≡ ia_bytes (ia_of d)
+  unfolding three_bytes prefixes_bytes said_bytes ia_bytes ia_of be
   ia-split = rw (printed-append (map listed_item (first_listed d.count d.prefixes)) (map status_item (cons_if d.says d.status [])))
 
-  pub ia-size : length (option 25 (ia_bytes (ia_of d))) ≡ 16 + (length (first_bytes d.count d.prefixes) + length (said_bytes d.says d.status))
+  pub ia-size : length (option 25 (ia_bytes (ia_of d))) ≡ 16 + (length (prefixes_bytes (take d.count d.prefixes)) + length (said_bytes d.says d.status))
   unfolding three_bytes be
   ia-size =
       option-length 25 (ia_bytes (ia_of d)) ∙ ap (λ (l : List ℕ). 4 + length l) (sym ia-split)
-      ∙ omega (arith, length-append (first_bytes d.count d.prefixes) (said_bytes d.says d.status))
+      ∙ omega (arith, length-append (prefixes_bytes (take d.count d.prefixes)) (said_bytes d.says d.status))
 
   pub pd-yes : {b : Bool} → b ≡ true → pd_bytes b d ≡ option 25 (ia_bytes (ia_of d))
   unfolding pd_bytes printed

@@ -3,7 +3,7 @@ use Rattle.std.specs.Prelude.{ℕ, Bool, List, [], ◌∷◌, ◌++◌, map}
 use Rattle.rules.specs.Words.{cons_if, num, be}
 use Rattle.rules.specs.Options.{option, item, printed}
 use Rattle.rules.specs.Message.{status_item, except_items, listed_bytes, listed_item, ia_item}
-use Rattle.values.specs.Values.{except_of, listed_of, first_listed, ia_of}
+use Rattle.values.specs.Values.{except_of, listed_of, ia_of}
 use Rattle.values.specs.declared.IaPrefix.{IaPrefix}
 use Rattle.values.specs.declared.Pd.{Pd}
 
@@ -22,8 +22,8 @@ cut_bytes x = printed (except_items x.length (except_of x.cut x.out))
 unfoldable pub prefix_bytes : IaPrefix → List ℕ
 prefix_bytes x = option 26 (listed_bytes (listed_of x []))
 
-unfoldable pub first_bytes : ℕ → List IaPrefix → List ℕ
-first_bytes n xs = printed (map listed_item (first_listed n xs))
+unfoldable pub prefixes_bytes : List IaPrefix → List ℕ
+prefixes_bytes xs = printed (map listed_item (map (λ x. listed_of x []) xs))
 
 -- an IA_PD up to its options
 unfoldable pub three_bytes : ℕ → ℕ → ℕ → List ℕ

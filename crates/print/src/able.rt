@@ -1,5 +1,5 @@
 // Which values have an encoding.
-ghost use Rattle.std.specs.Prelude.{◌≡◌, false, ◌&&◌, [], ◌≤◌, ◌<◌, ltb, take};
+ghost use Rattle.std.specs.Prelude.{◌≡◌, false, ◌&&◌, [], ◌≤◌, ltb, map, take};
 ghost use Rattle.rules.specs.Words.{all, num};
 ghost use Rattle.rules.specs.Prefix.{prefix, fits};
 ghost use Rattle.rules.specs.Lone.{listed_encodes};
@@ -15,7 +15,7 @@ fn fits(q: [u8; 16], a: usize) -> bool
     a <= 128
 }
 
-// An IA Prefix, and the first n.
+// An IA Prefix, and all of some.
 pub fn encodes(x: IaPrefix) -> bool
     ensures { result ≡ listed_encodes (listed_of x []) }
 {
@@ -24,19 +24,10 @@ pub fn encodes(x: IaPrefix) -> bool
     fits(p, x.length) & ((x.cut == 0) | prefix::exclude::encodable(p, x.length, e, x.cut))
 }
 
-pub fn first_encodes(ps: [IaPrefix; 5], n: usize) -> bool
-    requires { n ≤ 5 }
-    ensures { result ≡ all listed_encodes (first_listed n ps) }
+pub fn all_encode(ps: &[IaPrefix]) -> bool
+    ensures { result ≡ all listed_encodes (map (λ x. listed_of x []) ps.now) }
 {
-    let mut i = 0;
-    while i < n {
-        let x = ps[i];
-        if !encodes(x) {
-            return false;
-        }
-        i += 1;
-    }
-    true
+    ps.iter().all(|x| encodes(*x))
 }
 
 // How many of the first n there are.
@@ -69,5 +60,5 @@ pub fn pd_encodes(d: Pd) -> bool
     ensures { result ≡ all listed_encodes (first_listed d.count d.prefixes) && ltb d.status 65536 }
 {
     let ps = d.prefixes;
-    first_encodes(ps, d.count) & (d.status < 65536)
+    all_encode(&ps[..d.count]) & (d.status < 65536)
 }

@@ -1,12 +1,12 @@
 // An IA_PD with its IA Prefixes and their PD Excludes.
-ghost use Rattle.std.specs.Prelude.{◌≡◌, true, ◌+◌, ◌≤◌, ◌<◌, length, take};
+ghost use Rattle.std.specs.Prelude.{◌≡◌, true, ◌+◌, ◌≤◌, ◌<◌, length};
 ghost use Rattle.rules.specs.Words.{all, num};
 ghost use Rattle.rules.specs.Prefix.{prefix, zero_after, exclude_bytes};
 ghost use Rattle.rules.specs.Options.{option};
 ghost use Rattle.rules.specs.Message.{ia_bytes};
 ghost use Rattle.laws.specs.Writes.{Wrote};
 ghost use Rattle.values.specs.Values.{lease_encodes, ia_of, Able};
-ghost use Rattle.print.specs.Bytes.{fixed_bytes, cut_bytes, prefix_bytes, first_bytes, three_bytes, pd_bytes};
+ghost use Rattle.print.specs.Bytes.{fixed_bytes, cut_bytes, prefix_bytes, prefixes_bytes, three_bytes, pd_bytes};
 
 use crate::put::{put_bytes, put_head, put_number, put_said};
 use values::{IaPrefix, Pd};
@@ -63,17 +63,13 @@ pub fn put_prefix(out: &mut [u8], at: usize, x: IaPrefix) -> usize
     end
 }
 
-// The first n.
-pub fn put_prefixes(out: &mut [u8], at: usize, ps: [IaPrefix; 5], n: usize) -> usize
-    requires { (n ≤ 5) × (all lease_encodes (take n ps) ≡ true) × (at + length (first_bytes n ps) ≤ length out.old) }
-    ensures { Wrote at (first_bytes n ps) result out.old out.new }
+pub fn put_prefixes(out: &mut [u8], at: usize, ps: &[IaPrefix]) -> usize
+    requires { (all lease_encodes ps.now ≡ true) × (at + length (prefixes_bytes ps.now) ≤ length out.old) }
+    ensures { Wrote at (prefixes_bytes ps.now) result out.old out.new }
 {
     let mut end = at;
-    let mut i = 0;
-    while i < n {
-        let x = ps[i];
-        end = put_prefix(out, end, x);
-        i += 1;
+    for x in ps {
+        end = put_prefix(out, end, *x);
     }
     end
 }
@@ -94,7 +90,7 @@ pub fn put_pd(out: &mut [u8], at: usize, d: Pd) -> usize
 {
     let ps = d.prefixes;
     let p = put_three(out, at + 4, d.iaid, d.t1, d.t2);
-    let q = put_prefixes(out, p, ps, d.count);
+    let q = put_prefixes(out, p, &ps[..d.count]);
     let end = put_said(out, q, d.says, d.status);
     put_head(out, at, 25, end - (at + 4));
     end

@@ -4,7 +4,7 @@ ghost use Rattle.rules.specs.Prefix.{bytes_for};
 ghost use Rattle.rules.specs.Options.{option, printed};
 ghost use Rattle.rules.specs.Message.{status_item, ia_bytes};
 ghost use Rattle.values.specs.Values.{ia_of};
-ghost use Rattle.print.specs.Bytes.{said_bytes, prefix_bytes, first_bytes};
+ghost use Rattle.print.specs.Bytes.{said_bytes, prefix_bytes, prefixes_bytes};
 
 use values::{IaPrefix, Pd};
 
@@ -44,7 +44,7 @@ pub fn exclude_size(a: usize, b: usize) -> usize
     5 + d / 8 + (d % 8 + 7) / 8
 }
 
-// An IA Prefix, and the first n.
+// An IA Prefix, and some.
 pub fn prefix_size(x: IaPrefix) -> usize
     ensures { (result ≡ length (prefix_bytes x)) × (result < 2 ^ 61 + 64) }
 {
@@ -54,16 +54,13 @@ pub fn prefix_size(x: IaPrefix) -> usize
     29 + exclude_size(x.length, x.cut)
 }
 
-pub fn first_size(ps: [IaPrefix; 5], n: usize) -> usize
-    requires { n ≤ 5 }
-    ensures { (result ≡ length (first_bytes n ps)) × (result ≤ 5 * (2 ^ 61 + 64)) }
+pub fn prefixes_size(ps: &[IaPrefix]) -> usize
+    requires { length ps.now ≤ 5 }
+    ensures { (result ≡ length (prefixes_bytes ps.now)) × (result ≤ 5 * (2 ^ 61 + 64)) }
 {
     let mut size = 0;
-    let mut i = 0;
-    while i < n {
-        let x = ps[i];
-        size += prefix_size(x);
-        i += 1;
+    for x in ps {
+        size += prefix_size(*x);
     }
     size
 }
@@ -73,5 +70,5 @@ pub fn pd_size(d: Pd) -> usize
     ensures { result ≡ length (option 25 (ia_bytes (ia_of d))) }
 {
     let ps = d.prefixes;
-    16 + first_size(ps, d.count) + said_size(d.says, d.status)
+    16 + prefixes_size(&ps[..d.count]) + said_size(d.says, d.status)
 }

@@ -6,17 +6,16 @@ use Rattle.listed.proofs.all_returned.Goals as goal
 
 pub loop-i-init : goal.loop-i-init
 unfolding rest_listed
-loop-i-init c = (omega arith, search rules, refl)
+loop-i-init c = (search rules, refl)
 
 pub loop-i-preserved : goal.loop-i-preserved
 loop-i-preserved c =
     let long : c.args.n ≤ length c.args.ps = let l : length c.args.ps ≡ 5 = search rules in omega (arith, c.requires) in (
       search rules,
-      search rules,
-      all-put _ _ _ long _ _ c.loop-i-test.true (omega arith) c.returned.ensures c.loop-i.invariant.2,
+      all-put _ _ _ long _ _ c.loop-i-test.true (omega arith) c.returned.ensures c.loop-i.invariant.1,
     )
 
 pub returns : goal.returns
 returns c =
     let long : c.args.n ≤ length c.args.ps = let l : length c.args.ps ≡ 5 = search rules in omega (arith, c.requires) in
-    (all_done _ _ _ long _ c.loop-i.invariant.0 c.loop-i-test.false c.loop-i.invariant.2, search rules)
+    (all_done _ _ _ long _ c.loop-i.auto.i-end c.loop-i-test.false c.loop-i.invariant.1, search rules)

@@ -1,27 +1,17 @@
-use Rattle.std.proofs.Common.{◌≡◌, refl, sym, ap, ◌∙◌, ◌≤◌, arith, ltb, length, not}
-use borrow.Author.Rules.{rules}
+-- At least one, and by the test of each.
+use Rattle.std.proofs.Common.{rules, tests, ◌∙◌, [], take, ap, not, ltb, ◌&&◌}
+use Rattle.std.proofs.lemmas.Iterator.{YieldsList-from_slice}
+use Rattle.std.proofs.lemmas.Iterator.Search.{all_from_yields_List}
+use Rattle.rules.specs.Prefix.{inside}
+use Rattle.prefix.specs.Upper.{upper}
 use Rattle.values.specs.Values.{lease_of, listed_of}
-use Rattle.values.specs.Listed.{rest_listed, all-stop, all_go, all_end}
-use Rattle.listed.proofs.Laws.{and-true, and-false}
+use Rattle.listed.proofs.Laws.{list-all}
 use Rattle.listed.proofs.gone.Goals as goal
 
-pub loop-i-init : goal.loop-i-init
-unfolding rest_listed
-loop-i-init c = (omega arith, refl)
-
-pub returns-then-inside16 : goal.returns-then-inside16
-unfolding listed_of lease_of
-returns-then-inside16 c =
-    let long : c.args.n ≤ length c.args.ps = let l : length c.args.ps ≡ 5 = search rules in omega (arith, c.requires) in
-    and-false (ltb 0 c.args.n) (c.loop-i.invariant.1 ∙ all-stop _ _ _ long _ c.loop-i-test.true (ap not (sym c.inside16.ensures ∙ c.if-inside16.true)))
-
-pub loop-i-preserved : goal.loop-i-preserved
-unfolding listed_of lease_of
-loop-i-preserved c =
-    let long : c.args.n ≤ length c.args.ps = let l : length c.args.ps ≡ 5 = search rules in omega (arith, c.requires) in
-    (search rules, c.loop-i.invariant.1 ∙ all_go _ _ _ long _ c.loop-i-test.true (ap not (sym c.inside16.ensures ∙ c.if-inside16.false)))
-
 pub returns : goal.returns
+unfolding listed_of lease_of
 returns c =
-    let long : c.args.n ≤ length c.args.ps = let l : length c.args.ps ≡ 5 = search rules in omega (arith, c.requires) in
-    and-true (ltb 0 c.args.n) (c.loop-i.invariant.1 ∙ all_end _ _ _ long _ c.loop-i-test.false)
+    ap (λ b. ltb 0 c.args.n && b)
+    (all_from_yields_List (λ x. not (inside (listed_of x []).lease.prefix (upper c.args.pool c.args.width))) _ _ c.all.result c.all.ensures.ran
+    (YieldsList-from_slice (take c.args.n c.args.ps) cc) (λ x b q k. search (rules, tests))
+    ∙ list-all (λ x. not (inside x.lease.prefix (upper c.args.pool c.args.width))) (take c.args.n c.args.ps))

@@ -1,23 +1,15 @@
-use Rattle.std.proofs.Common.{◌≡◌, refl, sym, ◌∙◌, ◌≤◌, arith, length}
-use borrow.Author.Rules.{rules}
-use Rattle.values.specs.Listed.{rest_listed, any-stop, any-go, any-end}
+-- By the test of each.
+use Rattle.std.proofs.Common.{rules, tests, ◌∙◌, [], take}
+use Rattle.std.proofs.lemmas.Iterator.{YieldsList-from_slice}
+use Rattle.std.proofs.lemmas.Iterator.Search.{any_from_yields_List}
+use Rattle.rules.specs.Prefix.{same_prefix}
+use Rattle.prefix.specs.Upper.{upper}
+use Rattle.values.specs.Values.{listed_of}
+use Rattle.listed.proofs.Laws.{list-any}
 use Rattle.listed.proofs.some_is.Goals as goal
-
-pub loop-i-init : goal.loop-i-init
-unfolding rest_listed
-loop-i-init c = (omega arith, refl)
-
-pub returns-then-is_prefix : goal.returns-then-is_prefix
-returns-then-is_prefix c =
-    let long : c.args.n ≤ length c.args.ps = let l : length c.args.ps ≡ 5 = search rules in omega (arith, c.requires) in
-    sym (c.loop-i.invariant.1 ∙ any-stop _ _ _ long _ c.loop-i-test.true (sym c.is_prefix.ensures ∙ c.if-is_prefix.true))
-
-pub loop-i-preserved : goal.loop-i-preserved
-loop-i-preserved c =
-    let long : c.args.n ≤ length c.args.ps = let l : length c.args.ps ≡ 5 = search rules in omega (arith, c.requires) in
-    (search rules, c.loop-i.invariant.1 ∙ any-go _ _ _ long _ c.loop-i-test.true (sym c.is_prefix.ensures ∙ c.if-is_prefix.false))
 
 pub returns : goal.returns
 returns c =
-    let long : c.args.n ≤ length c.args.ps = let l : length c.args.ps ≡ 5 = search rules in omega (arith, c.requires) in
-    sym (c.loop-i.invariant.1 ∙ any-end _ _ _ long _ c.loop-i-test.false)
+    any_from_yields_List (λ x. same_prefix (listed_of x []).lease.prefix (upper c.args.p c.args.a)) _ _ c.any.result c.any.ensures.ran
+    (YieldsList-from_slice (take c.args.n c.args.ps) cc) (λ x b q k. search (rules, tests))
+    ∙ list-any (λ x. same_prefix x.lease.prefix (upper c.args.p c.args.a)) (take c.args.n c.args.ps)

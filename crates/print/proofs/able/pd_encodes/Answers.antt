@@ -2,4 +2,4 @@
 use Rattle.print.proofs.able.pd_encodes.Goals as goal
 
 pub returns : goal.returns
-returns c = rw c.first_encodes.ensures
+returns c = rw c.all_encode.ensures

@@ -12,7 +12,7 @@ put_three-p-requires c = let l = ia-size c.args.d in search rules
 pub put_prefixes-q-requires : goal.put_prefixes-q-requires
 unfolding three_bytes be
 put_prefixes-q-requires c = let l = ia-size c.args.d in
-    (c.requires.0.count, c.requires.0.prefixes, search rules)
+    (c.requires.0.prefixes, search rules)
 
 pub put_said-end-requires : goal.put_said-end-requires
 unfolding three_bytes be
