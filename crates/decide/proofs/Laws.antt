@@ -37,7 +37,7 @@ use Rattle.laws.specs.Sound.{good-facts, record-facts, sound-aligned}
 use Rattle.laws.specs.Choose.{Aligned as Records_aligned, choose-room, choose-chosen}
 use Rattle.laws.specs.Choosing.{same-choose}
 use Rattle.laws.specs.Change.{ending, held, extended-is, removed-is}
-use Rattle.prefix.specs.Upper.{upper, half_of}
+use Rattle.prefix.specs.Upper.{half_of}
 use Rattle.values.specs.Values.{lease_of as prefix_of, listed_of, first_listed}
 use Rattle.values.specs.declared.IaPrefix.{IaPrefix}
 use Rattle.sound.specs.Setup.{Agrees, setup_of}
@@ -195,7 +195,7 @@ module _ (b : List ℕ) (h : sound_bytes b ≡ true) (s : Setup) (g : Agrees s b
   abbrev set : Settings
   set = setup_of s (settings_of b).own
 
-  pub choice-asks : (n : ℕ) → n ≡ count_of b → Chooses b n (upper s.pool s.width) s.shortest s.standard
+  pub choice-asks : (n : ℕ) → n ≡ count_of b → Chooses b n (half_of s.pool) s.shortest s.standard
   unfolding table_of
   choice-asks n en =
       let good : all (good_record set) (from (record_at b) 0 n) ≡ true = rw (g, en) (held b h).sound.good in
@@ -307,7 +307,7 @@ module _ (b : List ℕ) (h : sound_bytes b ≡ true) (now : Moment) (who : Ident
 
 -- whether every listed prefix is gone, by the numbers of the pool
 pub gone-is : (b : List ℕ) (s : Setup) (ps : List IaPrefix) (n : ℕ) {g : Bool} → Agrees s b → n ≤ length ps
-    → g ≡ ltb 0 n && all (λ x. not (inside x.lease.prefix (upper s.pool s.width))) (first_listed n ps) → g ≡ gone (settings_of b) (first_listed n ps)
+    → g ≡ ltb 0 n && all (λ x. not (inside x.lease.prefix (half_of s.pool))) (first_listed n ps) → g ≡ gone (settings_of b) (first_listed n ps)
 unfolding gone
 gone-is b s ps n a l e =
     let m : length (first_listed n ps) ≡ n = rw (length-map, length-take-le n ps l) in

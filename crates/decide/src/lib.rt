@@ -90,14 +90,10 @@ fn choice(t: &[u8], s: Setup, ps: [IaPrefix; 5], n: usize) -> Option<Half>
         low: prefix::whole::low(bits),
         length: x.length as u64,
     };
-    let pool = Half {
-        upper: s.pool,
-        length: s.width,
-    };
     let c = Chooser {
         t,
         n: sound::count_of(t),
-        pool,
+        pool: s.pool,
         shortest: s.shortest,
         standard: s.standard,
     };
@@ -147,7 +143,7 @@ fn all_gone(t: &[u8], ps: [IaPrefix; 5], n: usize) -> bool
     ensures { result ≡ gone (settings_of t.now) (first_listed n ps) }
 {
     let s = sound::setup_of(t);
-    listed::gone(ps, n, s.pool, s.width)
+    listed::gone(ps, n, s.pool)
 }
 
 // What is to be done where no record is the asker's.

@@ -4,6 +4,7 @@ ghost use Rattle.rules.specs.Settings.{good_settings};
 ghost use Rattle.rules.specs.Lent.{ended, word_of, box_started};
 ghost use Rattle.delegator.specs.Given.{given};
 
+use prefix::half::Half;
 use rules::Refusal;
 
 // Whether the settings are good: the pool by its halves and its length, S and D, the lifetimes, the box's own DUID.
@@ -20,10 +21,14 @@ fn good_settings(
 ) -> bool
     ensures { result ≡ good_settings (given high low width shortest standard preferred valid exclusion own.now) }
 {
+    let pool = Half {
+        upper: high,
+        length: width,
+    };
     (32 <= width)
         & (width <= 56)
         & (low == 0)
-        & prefix::half::zero_after(high, width)
+        & pool.is_aligned()
         & (width <= shortest)
         & (shortest <= standard)
         & (standard <= 60)

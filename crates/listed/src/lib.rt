@@ -5,9 +5,10 @@ ghost use Rattle.std.specs.Prelude.{◌≡◌, true, not, ◌&&◌, [], ◌∷�
 ghost use Rattle.rules.specs.Words.{all, any};
 ghost use Rattle.rules.specs.Prefix.{zero_after, same_prefix, inside, except_for};
 ghost use Rattle.rules.specs.Box.{returned, others, same_except};
-ghost use Rattle.prefix.specs.Upper.{upper};
+ghost use Rattle.prefix.specs.Upper.{upper, half_of};
 ghost use Rattle.values.specs.Values.{listed_of, first_listed};
 
+use prefix::half::Half;
 use values::IaPrefix;
 
 // At most five IA Prefixes: the first `count` of the array.
@@ -54,14 +55,14 @@ pub fn all_go_with(ps: [IaPrefix; 5], n: usize, p: u64, a: u64, excluded: bool) 
 }
 
 // Whether at least one is listed, and none of the first n lies in the pool.
-pub fn gone(ps: [IaPrefix; 5], n: usize, pool: u64, width: u64) -> bool
+pub fn gone(ps: [IaPrefix; 5], n: usize, pool: Half) -> bool
     requires { n ≤ 5 }
-    ensures { result ≡ ltb 0 n && all (λ x. not (inside x.lease.prefix (upper pool width))) (first_listed n ps) }
+    ensures { result ≡ ltb 0 n && all (λ x. not (inside x.lease.prefix (half_of pool))) (first_listed n ps) }
 {
     (0 < n)
         & ps[..n]
             .iter()
-            .all(|x| !prefix::whole::inside16(x.bits, x.length, pool, width))
+            .all(|x| !prefix::whole::inside16(x.bits, x.length, pool))
 }
 
 // As it is returned: lifetimes 0, length and bits as sent, and no options.

@@ -1,7 +1,7 @@
 // Prefixes by the upper 64 bits of an address, the lower ones being zero. Every function takes any length.
 ghost use Rattle.std.specs.Prelude.{◌≡◌, ◌-◌, ◌*◌, ◌^◌, ◌<◌, eqb};
 ghost use Rattle.rules.specs.Prefix.{front, zero_after, overlap, inside};
-ghost use Rattle.prefix.specs.Upper.{upper, half_of};
+ghost use Rattle.prefix.specs.Upper.{half_of};
 
 // A prefix by the upper half of its bits, with its length.
 #[derive(Clone, Copy, Debug, PartialEq, Eq)]
@@ -59,41 +59,4 @@ impl Half {
         let s = 64 - self.length;
         self.upper >> s << s == self.upper
     }
-}
-
-// The same of two numbers each.
-pub fn overlap(p: u64, a: u64, q: u64, b: u64) -> bool
-    ensures { result ≡ overlap (upper p a) (upper q b) }
-{
-    Half {
-        upper: p,
-        length: a,
-    }
-    .overlaps(Half {
-        upper: q,
-        length: b,
-    })
-}
-
-pub fn inside(p: u64, a: u64, q: u64, b: u64) -> bool
-    ensures { result ≡ inside (upper p a) (upper q b) }
-{
-    Half {
-        upper: p,
-        length: a,
-    }
-    .inside(Half {
-        upper: q,
-        length: b,
-    })
-}
-
-pub fn zero_after(p: u64, a: u64) -> bool
-    ensures { result ≡ zero_after (upper p a) }
-{
-    Half {
-        upper: p,
-        length: a,
-    }
-    .is_aligned()
 }

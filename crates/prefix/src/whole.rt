@@ -2,7 +2,7 @@
 ghost use Rattle.std.specs.Prelude.{◌≡◌, ◌+◌, ◌-◌, ◌*◌, ◌/◌, ◌%◌, ◌^◌, ◌<◌, eqb};
 ghost use Rattle.rules.specs.Words.{num};
 ghost use Rattle.rules.specs.Prefix.{prefix, front, zero_after, inside};
-ghost use Rattle.prefix.specs.Upper.{upper};
+ghost use Rattle.prefix.specs.Upper.{half_of};
 
 use super::half::{Half, same_front};
 
@@ -62,9 +62,9 @@ pub fn zero_after16(q: [u8; 16], a: usize) -> bool
     .is_aligned()
 }
 
-// q of length n lies in the prefix whose upper 64 bits are p.
-pub fn inside16(q: [u8; 16], n: usize, p: u64, a: u64) -> bool
-    ensures { result ≡ inside (prefix (num q) n) (upper p a) }
+// q of length n lies in p.
+pub fn inside16(q: [u8; 16], n: usize, p: Half) -> bool
+    ensures { result ≡ inside (prefix (num q) n) (half_of p) }
 {
-    (a <= n as u64) & same_first(high(q), low(q), p, 0, a)
+    (p.length <= n as u64) & same_first(high(q), low(q), p.upper, 0, p.length)
 }

@@ -23,7 +23,8 @@ use Rattle.laws.specs.Numbers.{Bytes}
 use Rattle.laws.specs.Same.{same_bool}
 use Rattle.laws.specs.Represent.{sound-bytes, table-length}
 use Rattle.laws.specs.Flat.{duid_in, good_numbers, good_row, good_header, flat_sound, flat_sound_lem}
-use Rattle.prefix.specs.Upper.{upper}
+use Rattle.prefix.specs.Upper.{upper, half_of}
+use Rattle.prefix.specs.declared.half.Half.{Half}
 use Rattle.distinct.specs.Distinct.{Distinct}
 use Rattle.ranks.specs.Rank.{key_at, NoneShorter, clear}
 use Rattle.ranks.specs.Clear.{two-tests, keys-tell}
@@ -34,7 +35,7 @@ use Rattle.sound.specs.declared.Setup.{Setup}
 
 module _ (b : List ℕ) where
   pub setup-read : {p w h d x q v : ℕ} → p ≡ num_at b 10 8 → w ≡ num_at b 18 1 → h ≡ num_at b 19 1 → d ≡ num_at b 20 1 → x ≡ num_at b 21 1 → q ≡ num_at b 22 4 → v ≡ num_at b 26 4
-      → Agrees (record { pool = p; width = w; shortest = h; standard = d; preferred = q; valid = v; exclusion = not (eqb x 0) }) b
+      → Agrees (record { pool = record { upper = p; length = w }; shortest = h; standard = d; preferred = q; valid = v; exclusion = not (eqb x 0) }) b
   unfolding settings_of
   setup-read p w h d x q v = λ j. record {
     pool = upper (p j) (w j);
@@ -48,7 +49,7 @@ module _ (b : List ℕ) where
 
 module _ (s : Setup) (b : List ℕ) (a : Agrees s b) where
   pub header_read : good_header b
-      ≡ leb 32 s.width && leb s.width 56 && zero_after (upper s.pool s.width) && leb s.width s.shortest && leb s.shortest s.standard
+      ≡ leb 32 s.pool.length && leb s.pool.length 56 && zero_after (half_of s.pool) && leb s.pool.length s.shortest && leb s.shortest s.standard
       && leb s.standard 60 && leb 120 s.preferred && leb s.preferred s.valid && leb (num_at b 21 1) 1
       && duid_in 31 (num_at b 30 1) b && all (eqb 0) (part 161 15 b)
   unfolding good_header settings_of
@@ -60,9 +61,9 @@ module _ (s : Setup) (b : List ℕ) (a : Agrees s b) where
   unfolding good_row
   row-agrees e = ap (λ k. good_row k e) (sym a)
 
-pub numbers-read : (s : Setup) (u a x end : ℕ) {i z : Bool} {f : ℕ} → i ≡ inside (upper u a) (upper s.pool s.width) → z ≡ zero_after (upper u a) → f ≡ flag s.exclusion
-    → i && leb s.shortest a && leb a 60 && z && leb x f && good_end end ≡ good_numbers (setup_of s []) u a x end
-numbers-read s u a x end i z f = rw (i, z, f)
+pub numbers-read : (s : Setup) (p : Half) (x end : ℕ) {i z : Bool} {f : ℕ} → i ≡ inside (half_of p) (half_of s.pool) → z ≡ zero_after (half_of p) → f ≡ flag s.exclusion
+    → i && leb s.shortest p.length && leb p.length 60 && z && leb x f && good_end end ≡ good_numbers (setup_of s []) p.upper p.length x end
+numbers-read s p x end i z f = rw (i, z, f)
 
 -- ---------------------------------------------------------------- a DUID
 

@@ -3,12 +3,12 @@ use Rattle.std.specs.Prelude.{ℕ, ◌≡◌, List}
 use Rattle.rules.specs.Identity.{Duid}
 use Rattle.rules.specs.Settings.{Settings}
 use Rattle.rules.specs.TableBytes.{settings_of}
-use Rattle.prefix.specs.Upper.{upper}
+use Rattle.prefix.specs.Upper.{half_of}
 use Rattle.sound.specs.declared.Setup.{Setup}
 
 abbrev pub setup_of : Setup → Duid → Settings
 setup_of s own = record {
-  pool = upper s.pool s.width;
+  pool = half_of s.pool;
   shortest = s.shortest;
   standard = s.standard;
   preferred = s.preferred;

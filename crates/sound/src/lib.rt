@@ -9,11 +9,12 @@ ghost use Rattle.laws.specs.Flat.{good_numbers, duid_in, good_row, good_header};
 ghost use Rattle.ranks.specs.Rank.{NoneShorter, clear};
 ghost use Rattle.sound.specs.Setup.{setup_of, Agrees};
 
-// The numbers of the box's settings: the pool by its upper half and its length P, then S and D. The own DUID stays in the table.
+use prefix::half::Half;
+
+// The numbers of the box's settings: the pool with its length P, then S and D. The own DUID stays in the table.
 #[derive(Clone, Copy)]
 pub struct Setup {
-    pub pool: u64,
-    pub width: u64,
+    pub pool: Half,
     pub shortest: u64,
     pub standard: u64,
     pub preferred: u32,
@@ -42,16 +43,15 @@ pub fn setup_of(t: &[u8]) -> Setup
     requires { table_size ≤ length t.now }
     ensures { Agrees result t.now }
 {
-    let pool = cells::get(t, 10, 8);
-    let width = cells::get(t, 18, 1);
+    let upper = cells::get(t, 10, 8);
+    let length = cells::get(t, 18, 1);
     let shortest = cells::get(t, 19, 1);
     let standard = cells::get(t, 20, 1);
     let x = cells::get(t, 21, 1);
     let preferred = cells::get(t, 22, 4) as u32;
     let valid = cells::get(t, 26, 4) as u32;
     Setup {
-        pool,
-        width,
+        pool: Half { upper, length },
         shortest,
         standard,
         preferred,
@@ -91,10 +91,10 @@ pub fn good_header(t: &[u8]) -> bool
     let s = setup_of(t);
     let x = cells::get(t, 21, 1);
     let n = cells::get(t, 30, 1) as usize;
-    (32 <= s.width)
-        & (s.width <= 56)
-        & prefix::half::zero_after(s.pool, s.width)
-        & (s.width <= s.shortest)
+    (32 <= s.pool.length)
+        & (s.pool.length <= 56)
+        & s.pool.is_aligned()
+        & (s.pool.length <= s.shortest)
         & (s.shortest <= s.standard)
         & (s.standard <= 60)
         & (120 <= s.preferred)
@@ -110,14 +110,14 @@ fn flag(b: bool) -> u64
     if b { 1 } else { 0 }
 }
 
-// Whether a record's numbers go with the settings: upper half, length, excluded, end.
-fn good_numbers(s: Setup, u: u64, a: u64, x: u64, end: u64) -> bool
-    ensures { result ≡ good_numbers (setup_of s []) u a x end }
+// Whether a record's numbers go with the settings: prefix, excluded, end.
+fn good_numbers(s: Setup, p: Half, x: u64, end: u64) -> bool
+    ensures { result ≡ good_numbers (setup_of s []) p.upper p.length x end }
 {
-    prefix::half::inside(u, a, s.pool, s.width)
-        & (s.shortest <= a)
-        & (a <= 60)
-        & prefix::half::zero_after(u, a)
+    p.inside(s.pool)
+        & (s.shortest <= p.length)
+        & (p.length <= 60)
+        & p.is_aligned()
         & (x <= flag(s.exclusion))
         & ((end < 0x2_0000_0000_0000) | (end == 0xFFFF_FFFF_FFFF_FFFF))
 }
@@ -129,11 +129,11 @@ pub fn good_row(t: &[u8], i: usize, s: Setup) -> bool
 {
     let o = 176 + i * 153;
     let n = cells::get(t, o, 1) as usize;
-    let u = cells::get(t, o + 5, 8);
-    let a = cells::get(t, o + 13, 1);
+    let upper = cells::get(t, o + 5, 8);
+    let length = cells::get(t, o + 13, 1);
     let x = cells::get(t, o + 14, 1);
     let end = cells::get(t, o + 15, 8);
-    good_duid(t, o + 23, n) & good_numbers(s, u, a, x, end)
+    good_duid(t, o + 23, n) & good_numbers(s, Half { upper, length }, x, end)
 }
 
 // Whether those of each of n records are.
