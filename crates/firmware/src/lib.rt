@@ -3,9 +3,21 @@
 
 ghost use Rattle.std.specs.Prelude.{◌≡◌, []};
 ghost use Rattle.rules.specs.Identity.{identity};
-ghost use Rattle.rules.specs.Lent.{ended, box_started, box_handled, box_counted, box_shown, router_started, router_sent, router_resent, router_abandoned, router_received, router_shown};
+ghost use Rattle.rules.specs.Lent.{ended, box_started, box_handled, box_counted, box_shown, router_started, router_sent, router_resent, router_abandoned, router_received, router_shown, word_of};
 ghost use Rattle.rules.specs.declared.Kind.TheVariants.{Solicit, Request, Renew, Rebind, Release};
 ghost use Rattle.delegator.specs.Given.{given};
+
+use rules::Refusal;
+
+// The word for what an operation gives: the length of what it wrote, or its refusal's number times 65,536.
+fn word(r: Result<usize, Refusal>) -> u64
+    ensures { result ≡ word_of r }
+{
+    match r {
+        Ok(n) => n as u64,
+        Err(e) => u64::from(e) * 65536,
+    }
+}
 
 // ---------------------------------------------------------------- the box
 
@@ -124,7 +136,7 @@ pub extern "C" fn pd_router_abandon(state: &mut [u8; 384], time: u64) -> u64
 pub extern "C" fn pd_router_receive(state: &mut [u8; 384], time: u64, message: &[u8]) -> u64
     ensures { ended result state.new [] ≡ router_received state.old time message.now }
 {
-    requester::hearing::receive(state, time, message)
+    word(requester::hearing::receive(state, time, message))
 }
 
 #[unsafe(no_mangle)]
