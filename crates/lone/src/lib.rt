@@ -157,20 +157,14 @@ pub fn read_message(text: &[u8]) -> Result<MessageRead, Refusal>
     if !s.formed {
         return Err(Refusal::Malformed);
     }
-    let c = s.client;
-    let client = c.first;
-    let v = s.server;
-    let server = v.first;
-    let d = s.pd;
-    let pd = d.first;
     Ok(MessageRead {
         kind: u8_at(text, 0),
         number: cells::get(text, 1, 3) as u32,
-        clients: c.count,
-        client,
-        servers: v.count,
-        server,
-        pds: d.count,
-        pd,
+        clients: s.client.count,
+        client: s.client.first,
+        servers: s.server.count,
+        server: s.server.first,
+        pds: s.pd.count,
+        pd: s.pd.first,
     })
 }

@@ -13,7 +13,7 @@ use crate::walk::u8_at;
 use rules::Spot;
 use values::IaPrefix;
 
-// An excluded prefix and its length, or 0 for none.
+// An excluded prefix and its length, or 0 for none: as IaPrefix holds them, so that an Option would be taken apart again.
 #[derive(Clone, Copy)]
 pub struct Cut {
     pub cut: usize,
