@@ -24,8 +24,7 @@ fn put_duid(t: &mut [u8], at: usize, d: &[u8])
 }
 
 // The four times of a start.
-fn stamp(t: &mut [u8], start: u64)
-    requires { length t.old ≡ 384 }
+fn stamp(t: &mut [u8; 384], start: u64)
     ensures { t.new ≡ stamped start t.old }
 {
     cells::put(t, LAST, 8, start);
@@ -35,8 +34,8 @@ fn stamp(t: &mut [u8], start: u64)
 }
 
 // A fresh state. Its last sending of a Release is its start.
-pub fn start(t: &mut [u8], duid: &[u8], iaid: u32, wanted: u64, time: u64)
-    requires { (length t.old ≡ 384) × (length duid.now ≤ 130) }
+pub fn start(t: &mut [u8; 384], duid: &[u8], iaid: u32, wanted: u64, time: u64)
+    requires { length duid.now ≤ 130 }
     ensures { t.new ≡ router_bytes (fresh (identity duid.now iaid) wanted time) }
 {
     cells::clear(t, 0, 384);
@@ -69,6 +68,7 @@ fn carried(t: &[u8], kind: Kind, time: u64) -> [u8; 34]
 }
 
 // The exchange's first times, and the next number.
+// This and the writes below take the slice as lent, since an operation refuses other lengths by 9 (Lent.of_router), and no array.
 fn date(t: &mut [u8], time: u64, next: u64)
     requires { length t.old ≡ 384 }
     ensures { t.new ≡ splice 32 (be 4 next) (splice 16 (be 8 time) (splice 0 (be 8 time) t.old)) }
