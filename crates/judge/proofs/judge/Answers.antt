@@ -18,10 +18,11 @@ returns-in_err-kind c =
     rw e (passed_on c.in_err-kind.was (judged-form _ _ _ _ c.by_table.ensures (goes c.in_ok-by_table.was) c.if-room-lt512.false c.by_form.ensures.0), tt)
 
 pub by_ids-requires : goal.by_ids-requires
-by_ids-requires c =
-    (is-sound _ c.args.msg.now _ c.args.room c.by_table.ensures (goes c.in_ok-by_table.was),
-    formed _ _ _ c.args.room c.by_table.ensures (goes c.in_ok-by_table.was) c.if-room-lt512.false c.by_form.ensures.0 (goes c.in_ok-kind.was) refl,
-    noted _ _ _ c.args.room c.by_table.ensures (goes c.in_ok-by_table.was) c.if-room-lt512.false c.by_form.ensures.0 (goes c.in_ok-kind.was) refl c.args.s c.requires)
+by_ids-requires c = (
+  is-sound _ c.args.msg.now _ c.args.room c.by_table.ensures (goes c.in_ok-by_table.was),
+  formed _ _ _ c.args.room c.by_table.ensures (goes c.in_ok-by_table.was) c.if-room-lt512.false c.by_form.ensures.0 (goes c.in_ok-kind.was) refl,
+  noted _ _ _ c.args.room c.by_table.ensures (goes c.in_ok-by_table.was) c.if-room-lt512.false c.by_form.ensures.0 (goes c.in_ok-kind.was) refl c.args.s c.requires,
+)
 
 pub returns-in_err-pd : goal.returns-in_err-pd
 returns-in_err-pd c =
@@ -29,11 +30,12 @@ returns-in_err-pd c =
     rw e (passed_on c.in_err-pd.was (judged-ids _ _ _ _ c.by_table.ensures (goes c.in_ok-by_table.was) c.if-room-lt512.false c.by_form.ensures.0 (goes c.in_ok-kind.was) c.by_ids.ensures.0), tt)
 
 pub passed_over-requires : goal.passed_over-requires
-passed_over-requires c =
-    (understood _ _ _ c.args.room c.by_table.ensures (goes c.in_ok-by_table.was) c.if-room-lt512.false c.by_form.ensures.0 (goes c.in_ok-kind.was) c.by_ids.ensures.0 (goes c.in_ok-pd.was),
-    noted _ _ _ c.args.room c.by_table.ensures (goes c.in_ok-by_table.was) c.if-room-lt512.false c.by_form.ensures.0 (goes c.in_ok-kind.was) refl c.args.s c.requires,
-    c.in_ok-kind.ensures.1,
-    c.in_ok-pd.ensures.1)
+passed_over-requires c = (
+  understood _ _ _ c.args.room c.by_table.ensures (goes c.in_ok-by_table.was) c.if-room-lt512.false c.by_form.ensures.0 (goes c.in_ok-kind.was) c.by_ids.ensures.0 (goes c.in_ok-pd.was),
+  noted _ _ _ c.args.room c.by_table.ensures (goes c.in_ok-by_table.was) c.if-room-lt512.false c.by_form.ensures.0 (goes c.in_ok-kind.was) refl c.args.s c.requires,
+  c.in_ok-kind.ensures.1,
+  c.in_ok-pd.ensures.1,
+)
 
 pub returns-then-passed_over : goal.returns-then-passed_over
 returns-then-passed_over c =

@@ -13,11 +13,12 @@ pub tidy-requires : goal.tidy-requires
 tidy-requires c = is-sound _ _ _ _ c.judge.ensures.0 (goes c.in_ok-pd.was)
 
 pub serve-requires : goal.serve-requires
-serve-requires c =
-    (is-ready _ _ _ _ c.judge.ensures.0 (goes c.in_ok-pd.was) c.tidy.ensures,
-    omega (arith, (is-accepted _ _ _ _ c.judge.ensures.0 (goes c.in_ok-pd.was)).roomy),
-    has-notes _ _ _ _ c.judge.ensures.0 (goes c.in_ok-pd.was) c.tidy.ensures _ c.notes_of-s.ensures,
-    c.in_ok-pd.ensures.1)
+serve-requires c = (
+  is-ready _ _ _ _ c.judge.ensures.0 (goes c.in_ok-pd.was) c.tidy.ensures,
+  omega (arith, (is-accepted _ _ _ _ c.judge.ensures.0 (goes c.in_ok-pd.was)).roomy),
+  has-notes _ _ _ _ c.judge.ensures.0 (goes c.in_ok-pd.was) c.tidy.ensures _ c.notes_of-s.ensures,
+  c.in_ok-pd.ensures.1,
+)
 
 pub returns : goal.returns
 returns c = c.serve.ensures ∙ is-handled _ _ _ _ c.judge.ensures.0 (goes c.in_ok-pd.was) c.tidy.ensures _ refl
