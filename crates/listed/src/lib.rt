@@ -59,7 +59,10 @@ pub fn gone(ps: [IaPrefix; 5], n: usize, pool: Half) -> bool
     requires { n ≤ 5 }
     ensures { result ≡ ltb 0 n && all (λ x. not (inside x.lease.prefix (half_of pool))) (first_listed n ps) }
 {
-    (0 < n) & ps[..n].iter().all(|x| !prefix::whole::inside16(x.bits, x.length, pool))
+    (0 < n)
+        & ps[..n]
+            .iter()
+            .all(|x| !prefix::whole::inside16(x.bits, x.length, pool))
 }
 
 // As it is returned: lifetimes 0, length and bits as sent, and no options.
