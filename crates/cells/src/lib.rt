@@ -4,12 +4,6 @@
 ghost use Rattle.std.specs.Prelude.{◌≡◌, ◌+◌, ◌-◌, ◌*◌, ◌≤◌, ◌<◌, ◌^◌, eqb, length, replicate};
 ghost use Rattle.rules.specs.Words.{all, part, splice, filled, same_bytes, be, num_at};
 
-pub fn wide(x: u8) -> u64
-    ensures { (result ≡ x) × (result < 256) }
-{
-    u64::from(x)
-}
-
 // The N bytes from `at`.
 pub fn bytes_at<const N: usize>(t: &[u8], at: usize) -> [u8; N]
     requires { at + N ≤ length t.now }

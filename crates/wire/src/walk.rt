@@ -5,18 +5,12 @@ ghost use Rattle.rules.specs.Options.{step_at};
 
 use rules::Step;
 
-fn wide(x: u8) -> usize
-    ensures { (result ≡ x) × (result < 256) }
-{
-    x as usize
-}
-
 // The byte at a place, and the number in the two bytes there; past the end every byte is 0.
 pub fn u8_at(msg: &[u8], at: usize) -> usize
     ensures { (result ≡ get_or msg.now at 0) × (result < 256) }
 {
     if at < msg.len() {
-        return wide(msg[at]);
+        return usize::from(msg[at]);
     }
     0
 }
