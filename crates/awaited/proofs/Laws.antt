@@ -10,7 +10,7 @@ use borrow.Author.Tests.{ne_eqb, eqb-true, eqb-false, leb-true, ltb-false, not-t
 use lib.Dec.{eqb, leb, ltb}
 use lib.ListN.{length, get_or, take, drop, length-map}
 use Rattle.rules.specs.Words.{all, any, part, same_bytes, num_at}
-use Rattle.rules.specs.Options.{Area, area_of, options, count}
+use Rattle.rules.specs.Options.{Area, area_of, options, count, spot}
 use Rattle.rules.specs.Refusals.{wrong_size}
 use Rattle.rules.specs.Message.{Message, status_at, listed_at, ia_at, top, read, well_formed}
 use Rattle.rules.specs.Identity.{Duid, good_duid, served, kind_of, type_of, answer_type, is_release, identity_rows, stands}
@@ -19,12 +19,10 @@ use Rattle.rules.specs.RouterBytes.{some_if, duid_at, router_of}
 use Rattle.rules.specs.declared.Kind.{Kind}
 use Rattle.rules.specs.declared.Kind.TheVariants.{Solicit, Request, Renew, Rebind, Release}
 use Rattle.rules.specs.declared.Spot.{Spot}
-use Rattle.rules.specs.Options.{spot}
 use Rattle.laws.specs.Tests.{both, neither}
 use Rattle.laws.specs.Parts.{length_part}
-use Rattle.laws.specs.Same.{same_bool}
+use Rattle.laws.specs.Same.{same_bool, other_length}
 use Rattle.laws.specs.Kinds.{served-type, bytes-true, bytes-refl}
-use Rattle.laws.specs.Same.{other_length}
 use Rattle.laws.specs.Steps.{any-map}
 use Rattle.laws.specs.RouterChange.{release-type}
 use Rattle.heard.specs.Heard.{only_of}

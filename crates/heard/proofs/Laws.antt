@@ -14,7 +14,7 @@ use lib.Dec.{eqb, leb, ltb}
 use lib.ListN.{length, get_or, take, drop, set, length-set, length-map, length-drop, get_or-eq_default}
 use lib.Seq.{take-suc-set, drop-cons, take-length}
 use Rattle.rules.specs.Words.{all, part, same_bytes, num_at}
-use Rattle.rules.specs.Options.{area_of, options, count, nth}
+use Rattle.rules.specs.Options.{area_of, options, count, nth, spot}
 use Rattle.rules.specs.Message.{listed_at, ia_at, top, read}
 use Rattle.rules.specs.Identity.{Duid, served, kind_of, kind_from, identity_rows, row_of, stands, row_holds}
 use Rattle.rules.specs.Box.{wrong_pds}
@@ -23,7 +23,6 @@ use Rattle.rules.specs.declared.Kind.TheVariants.{Release}
 use Rattle.rules.specs.declared.Refusal.{Refusal}
 use Rattle.rules.specs.declared.Refusal.TheVariants.{Unserved}
 use Rattle.rules.specs.declared.Spot.{Spot}
-use Rattle.rules.specs.Options.{spot}
 use Rattle.laws.specs.Tests.{neither}
 use Rattle.laws.specs.Steps.{Stepped, Stopped, options-here, options-past}
 use Rattle.laws.specs.Parts.{length_part}

@@ -11,12 +11,11 @@ use borrow.Author.Tests.{eq-eqb, ne_eqb, leb-true}
 use Rattle.std.proofs.Math.ListN.{length, get_or}
 use Rattle.std.proofs.lemmas.List.{length-map}
 use Rattle.rules.specs.Words.{cons_if, part}
-use Rattle.rules.specs.Options.{Area, over, stop, opt, options, count, nth, content}
+use Rattle.rules.specs.Options.{Area, over, stop, opt, options, count, nth, content, spot}
 use Rattle.rules.specs.Message.{ia_at, top, read, well_formed}
 use Rattle.rules.specs.Identity.{Duid, good_duid, served, row_holds}
 use Rattle.rules.specs.Box.{client_of, ia_of}
 use Rattle.rules.specs.declared.Spot.{Spot}
-use Rattle.rules.specs.Options.{spot}
 use Rattle.laws.specs.Tests.{both}
 use Rattle.laws.specs.Parts.{length_part}
 use Rattle.laws.specs.Walk.{nth_inside}

@@ -15,7 +15,6 @@ use Rattle.rules.specs.Settings.{Settings}
 use Rattle.rules.specs.Table.{Record, Table, live, current, sound}
 use Rattle.rules.specs.Box.{Asked, client_of, ia_of, asked_by, serving, table_after, answer_after, wrong_pds, is_silence, box_tests, box_answer, box_handle}
 use Rattle.rules.specs.declared.Spot.{Spot}
-use Rattle.rules.specs.Options.{spot}
 use Rattle.laws.specs.Tests.{both, both-made}
 use Rattle.laws.specs.Kinds.{row-one-client}
 use Rattle.laws.specs.Refusals.{unless-done, in-time}

@@ -3,18 +3,16 @@
 --   PdFormed, PrefixFormed  what is known of the content of an IA_PD, of an IA Prefix
 --   judged-..               what the judgement of one option says of it
 --   formed-..               what is known of each that is found in a well-formed message
-use Rattle.std.specs.Prelude.{◌≡◌, refl, ℕ, zero, suc, ◌+◌, ◌≤◌, List, Bool, true, false, cond, ◌&&◌, eqb, length, Err, None, Ok, Some}
+use Rattle.std.specs.Prelude.{◌≡◌, refl, ℕ, zero, suc, ◌+◌, ◌≤◌, List, Bool, true, false, cond, ◌&&◌, eqb, length, None, Ok, Some}
 use Rattle.std.proofs.Common.{arith}
 use borrow.Author.Tests.{eqb-true, leb-true}
 use Rattle.std.proofs.Math.Dec.{leb}
 use Rattle.std.proofs.Math.ListN.{get_or}
 use Rattle.rules.specs.Words.{cons_if}
-use Rattle.rules.specs.Options.{Area, over, stop, opt, area_of, wants, scan, exclude_ok, check_prefix, check_pd, own, check, options, nth}
+use Rattle.rules.specs.Options.{Area, over, stop, opt, area_of, wants, scan, exclude_ok, check_prefix, check_pd, own, check, options, nth, spot, Checked}
 use Rattle.rules.specs.Message.{listed_at, ia_at, top, well_formed}
 use Rattle.rules.specs.declared.Level.{Level}
 use Rattle.rules.specs.declared.Level.TheVariants.{Top, InPd, InPrefix}
-use Rattle.rules.specs.Options.{spot}
-use Rattle.rules.specs.Options.{Checked}
 use Rattle.laws.specs.Told.{is-good, and-good, wants-good}
 use Rattle.laws.specs.Tests.{both}
 use Rattle.laws.specs.Walk.{same-spot, nth_inside}

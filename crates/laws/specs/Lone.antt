@@ -3,7 +3,7 @@
 --   lone-round, -round    a reader on what a writer gives; each reader and its writer
 --   Alone, lone-done      what a reader's success says
 --   lone_same, -unique    a text of bytes that reads is the option with what was read
-use Rattle.std.specs.Prelude.{◌≡◌, refl, Bool, true, false, not, ◌&&◌, ◌||◌, List, [], ◌∷◌, ℕ, suc, ◌+◌, ◌-◌, ◌*◌, ◌≤◌, ◌^◌, eqb, leb, ltb, length, get_or, Err, Ok, is_ok}
+use Rattle.std.specs.Prelude.{◌≡◌, refl, Bool, true, false, not, ◌&&◌, ◌||◌, List, [], ◌∷◌, ℕ, suc, ◌+◌, ◌-◌, ◌*◌, ◌≤◌, ◌^◌, eqb, leb, ltb, length, get_or, Ok, is_ok}
 use Rattle.std.proofs.Common.{ap, sym, ◌∙◌, append-nil, arith, eq-eqb, le-ltb, eqb-true, leb-true, ltb-true, ltb-false}
 use Rattle.std.proofs.lemmas.Bool.{not-false}
 use Rattle.std.proofs.Math.Arith.{digits_div, digits_mod}
@@ -13,8 +13,7 @@ use Rattle.rules.specs.Refusals.{done, wrong_size}
 use Rattle.rules.specs.Prefix.{Prefix, exclude_bytes, encodable, lease_encodable, content_ok, unpacked}
 use Rattle.rules.specs.Options.{own, exclude_ok, content, option}
 use Rattle.rules.specs.Message.{Listed, Ia, status_at, listed_at, ia_at, codes, asks67, listed_bytes, ia_bytes}
-use Rattle.rules.specs.Lone.{reader_tests, alone, only, lone, read_id, read_request, read_status, read_pd, read_prefix, read_exclude}
-use Rattle.rules.specs.Lone.{writer_tests, write, write_id, write_request, write_status, write_exclude, listed_encodes, ia_encodes, write_prefix, write_pd}
+use Rattle.rules.specs.Lone.{reader_tests, alone, only, lone, read_id, read_request, read_status, read_pd, read_prefix, read_exclude, writer_tests, write, write_id, write_request, write_status, write_exclude, listed_encodes, ia_encodes, write_prefix, write_pd}
 use Rattle.rules.specs.declared.Level.{Level}
 use Rattle.rules.specs.declared.Level.TheVariants.{Top, InPd, InPrefix}
 use Rattle.laws.specs.Tests.{both, neither}
@@ -24,8 +23,7 @@ use Rattle.laws.specs.Refusals.{unless-done, unless-made}
 use Rattle.laws.specs.Every.{every-weaker, every-all}
 use Rattle.laws.specs.Exclude.{encodes, unpacked-encodable, packed-unpacked}
 use Rattle.laws.specs.Stands.{Stands, Heads, stands-all, stands-part, stands-u16, stands-option, option-length}
-use Rattle.laws.specs.Round.{FineListed, FineIa, status_bytes, status-good, exclude-length, exclude-well, exclude-found}
-use Rattle.laws.specs.Round.{listed-well, listed_found, ia-well, ia-found}
+use Rattle.laws.specs.Round.{FineListed, FineIa, status_bytes, status-good, exclude-length, exclude-well, exclude-found, listed-well, listed_found, ia-well, ia-found}
 use Rattle.laws.specs.Told.{wants-good, is-good}
 use Rattle.laws.specs.Sizes.{name-most}
 

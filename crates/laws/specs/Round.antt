@@ -4,7 +4,7 @@
 --   -well                      what stands printed is good
 --   -found                     what is read where something stands printed is what was printed
 --   -length                    how long what is printed is
-use Rattle.std.specs.Prelude.{◌≡◌, Bool, true, false, cond, eqb, leb, ltb, length, get_or, Option, None, Some, Err, Ok, is_ok}
+use Rattle.std.specs.Prelude.{◌≡◌, Bool, true, false, cond, eqb, leb, ltb, length, get_or, Option, None, Some, Ok, is_ok}
 use Rattle.std.proofs.Math.Path.{refl, ap}
 use Rattle.std.proofs.Common.{sym, ◌∙◌, arith, length-append}
 use mathlib.Core.List.{List, [], ◌∷◌, ◌++◌, map, append-nil, map-id}
@@ -12,20 +12,14 @@ use Prim.Native.Nat.{ℕ, ◌+◌, ◌-◌, ◌^◌, ◌≤◌, ◌<◌}
 use borrow.Author.Tests.{le-leb, lt-ltb, leb-true, ltb-true}
 use Rattle.rules.specs.Words.{any, be, be16, num_at}
 use Rattle.rules.specs.Prefix.{Prefix, prefix, fits, bytes_for, packed, exclude_bytes, encodable, unpacked, lease_encodable}
-use Rattle.rules.specs.Options.{area_of, scan, wants, exclude_ok, in_prefix, check_prefix, in_pd, check_pd, in_top, own, check}
-use Rattle.rules.specs.Options.{options, nth, content, Item, item, printed}
-use Rattle.rules.specs.Message.{Listed, Ia, Message, status_at, except_at, listed_at, ia_at, codes, asks67, top, read, well_formed}
-use Rattle.rules.specs.Message.{name_of, status_item, except_items, listed_bytes, listed_item, ia_bytes, asks_items, items, print}
+use Rattle.rules.specs.Options.{area_of, scan, wants, exclude_ok, in_prefix, check_prefix, in_pd, check_pd, in_top, own, check, options, nth, content, Item, item, printed, spot, Checked}
+use Rattle.rules.specs.Message.{Listed, Ia, Message, status_at, except_at, listed_at, ia_at, codes, asks67, top, read, well_formed, name_of, status_item, except_items, listed_bytes, listed_item, ia_bytes, asks_items, items, print}
 use Rattle.rules.specs.declared.Spot.{Spot}
-use Rattle.rules.specs.Options.{spot}
-use Rattle.rules.specs.Options.{Checked}
 use Rattle.laws.specs.Tests.{both}
 use Rattle.laws.specs.Numbers.{length-be}
 use Rattle.laws.specs.Every.{Every, every, every-weaker}
 use Rattle.laws.specs.Exclude.{packed_lt, packed-content, num-packed, unpacked-packed}
-use Rattle.laws.specs.Stands.{Stands, stands-all, stands-tail, stands-part, stands-byte, stands-u16, stands-num, stands_after}
-use Rattle.laws.specs.Stands.{placed, area_of_lem, bytes_of, bytes-map, bytes-block, Match, match, match-values}
-use Rattle.laws.specs.Stands.{Well, WellAt, well, well-append, well-map}
+use Rattle.laws.specs.Stands.{Stands, stands-all, stands-tail, stands-part, stands-byte, stands-u16, stands-num, stands_after, placed, area_of_lem, bytes_of, bytes-map, bytes-block, Match, match, match-values, Well, WellAt, well, well-append, well-map}
 
 -- ---------------------------------------------------------------- what must hold
 

@@ -3,34 +3,30 @@
 --   server_given, hold_given  the server to remember, or the known one where none is given; a new hold
 --   onto, ..-written        writes, one after another
 --   begin-.., again-.., close-made, accept-.., start-made, hold-..   the writes of each change, by the way that code takes
-use Rattle.std.specs.Prelude.{◌≡◌, Bool, cond, ◌||◌, List, [], ◌∷◌, ◌++◌, map, ℕ, ◌+◌, ◌%◌, ◌≤◌, ◌<◌, ◌^◌, length, take, drop, set, replicate, Option, None, Some}
+use Rattle.std.specs.Prelude.{◌≡◌, cond, List, [], ◌∷◌, map, ℕ, ◌+◌, ◌%◌, ◌≤◌, ◌<◌, ◌^◌, length, set, replicate, Option, None, Some}
 use Rattle.std.proofs.Math.Path.{refl, sym, ap}
-use Rattle.std.proofs.Common.{◌∙◌, subst, arith, take-take}
-use Rattle.std.proofs.Math.Bool.{true, false, or_assoc}
+use Rattle.std.proofs.Common.{◌∙◌, subst, arith}
+use Rattle.std.proofs.Math.Bool.{true, false}
 use Rattle.std.proofs.lemmas.Bool.{false≢true}
-use Rattle.std.proofs.Math.Dec.{eqb, leb}
-use Rattle.std.proofs.Math.Seq.{take_at}
-use borrow.Author.Tests.{eq-eqb, ne_eqb, leb-true, leb-false, lt-ltb, le-ltb}
+use Rattle.std.proofs.Math.Dec.{eqb}
+use borrow.Author.Tests.{ne_eqb}
 use Rattle.rules.specs.Words.{part, splice, filled, num, be, num_at}
 use Rattle.rules.specs.Refusals.{done, unless}
 use Rattle.rules.specs.Prefix.{prefix, lease}
 use Rattle.rules.specs.Clock.{Moment}
-use Rattle.rules.specs.Identity.{Duid, Identity, identity, served, kind_of, type_of, is_release}
+use Rattle.rules.specs.Identity.{Duid, Identity, identity, type_of, is_release}
 use Rattle.rules.specs.Box.{start_tests}
 use Rattle.rules.specs.Router.{Hold, Exchange, Router, good_asker, number_after, holds, carries, is_open, exchange_for, begun, again, closed, router_start, open_of}
-use Rattle.rules.specs.RouterBytes.{lease_bytes, hold_bytes, duid_bytes, held_bytes, sent_bytes, exchange_bytes, router_bytes, some_if, lease_of, hold_of, router_of, sound_router_bytes}
+use Rattle.rules.specs.RouterBytes.{lease_bytes, hold_bytes, duid_bytes, held_bytes, sent_bytes, exchange_bytes, router_bytes, some_if, router_of, sound_router_bytes}
 use Rattle.rules.specs.declared.Kind.{Kind}
 use Rattle.rules.specs.declared.Kind.TheVariants.{Solicit, Request, Renew, Rebind, Release}
-use Rattle.laws.specs.Tests.{neither}
 use Rattle.laws.specs.Parts.{splice-splice, splice_all}
 use Rattle.laws.specs.Numbers.{length-be, be-num}
 use Rattle.laws.specs.Bits.{Sixteen}
-use Rattle.laws.specs.Kinds.{served-type}
 use Rattle.laws.specs.Flat.{be-one}
 use Rattle.laws.specs.Fields.{Fields, field_put, field_at}
-use Rattle.laws.specs.RouterFields.{lease-size, hold-size, duid-size, held-size, exchange-size, router_fields, router_sizes}
-use Rattle.laws.specs.RouterFlat.{num-part}
-use Rattle.laws.specs.RouterRepresent.{type-byte, inner-byte, inner-rest, lent-fields, fields-router}
+use Rattle.laws.specs.RouterFields.{duid-size, held-size, exchange-size, router_fields, router_sizes}
+use Rattle.laws.specs.RouterRepresent.{type-byte, inner-byte, lent-fields, fields-router}
 
 -- ---------------------------------------------------------------- what the changes leave
 

@@ -18,8 +18,7 @@ use Rattle.laws.specs.Tests.{both-made}
 use Rattle.laws.specs.Every.{Every}
 use Rattle.laws.specs.Round.{FineListed, FineIa, Fine}
 use Rattle.laws.specs.Told.{answer-fine}
-use Rattle.laws.specs.Sizes.{UpTo, encodable-upto, Bare, offer-most, return-most, say-most, ask-most}
-use Rattle.laws.specs.Sizes.{Addressed, answer-size, status-size, query-size}
+use Rattle.laws.specs.Sizes.{UpTo, encodable-upto, Bare, offer-most, return-most, say-most, ask-most, Addressed, answer-size, status-size, query-size}
 
 -- what is sent reads back, and fits every buffer and message
 pub record Sendable (v : Message) (n : ℕ) : Type 0 where

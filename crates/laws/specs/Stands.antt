@@ -6,17 +6,15 @@
 --   Match, match           the places found hold these contents; so they do where the options are printed
 --   Well, well             each option is good wherever it stands; then so is their area
 --   match-values           what is read at the places is what was printed there
-use Rattle.std.specs.Prelude.{◌≡◌, refl, Bool, true, false, cond, List, [], ◌∷◌, ◌++◌, map, ℕ, ◌+◌, ◌-◌, ◌*◌, ◌%◌, ◌^◌, ◌≤◌, ◌<◌, eqb, length, get_or, take, drop, Err, None, Ok, Option, Some}
+use Rattle.std.specs.Prelude.{◌≡◌, refl, Bool, true, false, cond, List, [], ◌∷◌, ◌++◌, map, ℕ, ◌+◌, ◌-◌, ◌*◌, ◌%◌, ◌^◌, ◌≤◌, ◌<◌, eqb, length, get_or, take, drop, None, Ok, Option, Some}
 use Rattle.std.proofs.Math.Path.{ap}
 use Rattle.std.proofs.Common.{sym, ◌∙◌, append_assoc, append-nil, add-zero, mod-eq_of_lt, arith, le-leb, le-ltb, length-append, get_or-drop, drop-drop}
 use Rattle.std.proofs.lemmas.Bool.{lt-leb}
 use Rattle.std.proofs.Math.Seq.{drop-append_seam, take_at}
 use Rattle.rules.specs.Words.{cons_if, part, num, be, be16, num_at, u16_at}
-use Rattle.rules.specs.Options.{step_at, Area, over, opt, area_of, and_then, scan, options, option, Item, item, printed}
+use Rattle.rules.specs.Options.{step_at, Area, over, opt, area_of, and_then, scan, options, option, Item, item, printed, spot, Checked}
 use Rattle.rules.specs.declared.Step.TheVariants.{Opt, End}
 use Rattle.rules.specs.declared.Spot.{Spot}
-use Rattle.rules.specs.Options.{spot}
-use Rattle.rules.specs.Options.{Checked}
 use Rattle.laws.specs.Numbers.{length-be, num-be-fits}
 use Rattle.laws.specs.Walk.{area-at}
 use Rattle.laws.specs.Every.{Every}

@@ -8,11 +8,9 @@ use Rattle.std.specs.Prelude.{◌≡◌, refl, ℕ, ◌+◌, ◌-◌, ◌≤◌,
 use Rattle.std.proofs.Common.{◌∙◌, arith, eq-eqb, ne_eqb}
 use Rattle.std.proofs.Math.ListN.{get_or-eq_default}
 use Rattle.rules.specs.Words.{any, cons_if, u16_at}
-use Rattle.rules.specs.Options.{step_at, area_of, scan, options, nth}
+use Rattle.rules.specs.Options.{step_at, area_of, scan, options, nth, spot, Checked}
 use Rattle.rules.specs.declared.Step.TheVariants.{Opt, End, Bad}
 use Rattle.rules.specs.declared.Spot.{Spot}
-use Rattle.rules.specs.Options.{spot}
-use Rattle.rules.specs.Options.{Checked}
 use Rattle.laws.specs.Walk.{Inside, step-inside, scan-opt, options-opt, options-end, options-bad, get_or-next}
 
 -- an option of code c stands at a place, with its content at s, n long, and the next one at x

@@ -10,8 +10,7 @@ use Prim.Native.Nat.{ℕ, zero, suc, ◌+◌, ◌-◌, ◌*◌, ◌^◌, ◌≤�
 use Rattle.std.proofs.Math.Pow.{pow_pos}
 use Rattle.rules.specs.Words.{cons_if, keep, part, num_at}
 use Rattle.rules.specs.Prefix.{Prefix, prefix, fits, same_prefix, bytes_for, content_ok, lease_encodable}
-use Rattle.rules.specs.Options.{step_at, grow, walk, area_of, and_then, wants, scan, options}
-use Rattle.rules.specs.Options.{exclude_ok, in_prefix, check_prefix, in_pd, check_pd, in_top, own, check}
+use Rattle.rules.specs.Options.{step_at, grow, walk, area_of, and_then, wants, scan, options, exclude_ok, in_prefix, check_prefix, in_pd, check_pd, in_top, own, check, spot, Checked}
 use Rattle.rules.specs.Message.{Listed, Ia, Message, except_at, listed_at, ia_at, top, read, well_formed}
 use Rattle.rules.specs.Settings.{Settings}
 use Rattle.rules.specs.Box.{returned, others, answer_to, ia_of}
@@ -19,8 +18,6 @@ use Rattle.rules.specs.declared.Level.TheVariants.{Top}
 use Rattle.rules.specs.declared.Step.{Step}
 use Rattle.rules.specs.declared.Step.TheVariants.{Opt, End, Bad}
 use Rattle.rules.specs.declared.Spot.{Spot}
-use Rattle.rules.specs.Options.{spot}
-use Rattle.rules.specs.Options.{Checked}
 use Rattle.laws.specs.Tests.{false-true, both, both-made}
 use Rattle.laws.specs.Parts.{length_part}
 use Rattle.laws.specs.Numbers.{num_at-fits}

@@ -21,12 +21,11 @@ use Rattle.std.proofs.lemmas.Bool.{not-false}
 use Rattle.lone.specs.declared.PdRead.{PdRead}
 use Rattle.lone.specs.Answers.{pd_head}
 use Rattle.rules.specs.Prefix.{Prefix, prefix, unpacked}
-use Rattle.rules.specs.Options.{area_of, own, count, nth}
+use Rattle.rules.specs.Options.{area_of, own, count, nth, spot}
 use Rattle.rules.specs.Message.{except_at, ia_at, well_formed}
 use Rattle.rules.specs.Lone.{alone, only, lone, reader_tests, read_message, Summary, summary}
 use Rattle.rules.specs.declared.Level.{Level}
 use Rattle.rules.specs.declared.Spot.{Spot}
-use Rattle.rules.specs.Options.{spot}
 use Rattle.rules.specs.declared.Level.TheVariants.{Top}
 use Rattle.laws.specs.Formed.{PdFormed, judged-pd}
 use Rattle.laws.specs.Tests.{both, neither}

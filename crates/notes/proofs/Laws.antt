@@ -15,13 +15,11 @@ use lib.Dec.{eqb, leb, ltb}
 use lib.ListN.{length, get_or}
 use Rattle.rules.specs.Words.{any, cons_if, part}
 use Rattle.rules.specs.Refusals.{wrong_size}
-use Rattle.rules.specs.Options.{Area, over, stop, opt, step_at, area_of, wants, scan, and_then, own, check, options, content}
+use Rattle.rules.specs.Options.{Area, over, stop, opt, step_at, area_of, wants, scan, and_then, own, check, options, content, spot, Checked}
 use Rattle.rules.specs.Message.{asks67, top, read, well_formed}
 use Rattle.rules.specs.declared.Level.TheVariants.{Top}
 use Rattle.rules.specs.declared.Step.TheVariants.{End, Bad}
 use Rattle.rules.specs.declared.Spot.{Spot}
-use Rattle.rules.specs.Options.{spot}
-use Rattle.rules.specs.Options.{Checked}
 use Rattle.laws.specs.Tests.{false-true, neither}
 use Rattle.laws.specs.Steps.{Stepped, ended, any-hit, any-miss, any-stop, any-map}
 use Rattle.laws.specs.Walk.{scan-opt, scan-end, scan-bad, options-opt}

@@ -3,9 +3,8 @@
 --   IsNote, Noted, Heard   the notes of a whole message
 use Rattle.std.specs.Prelude.{ℕ, ◌+◌, ◌≡◌, Bool, true, cond, not, ◌&&◌, ◌||◌, List, eqb, None, Some}
 use Rattle.rules.specs.Refusals.{wrong_size}
-use Rattle.rules.specs.Options.{count, nth}
+use Rattle.rules.specs.Options.{count, nth, spot}
 use Rattle.rules.specs.Message.{top, read, well_formed}
-use Rattle.rules.specs.Options.{spot}
 use Rattle.notes.specs.declared.Note.{Note}
 use Rattle.notes.specs.declared.Notes.{Notes}
 

@@ -6,27 +6,25 @@ use Rattle.std.specs.Prelude.{Option, None, Some, Result, Err, Ok}
 use Prim.Native.Nat.{ℕ, suc, ◌+◌, ◌*◌, ◌^◌, ◌≤◌, ◌<◌}
 use native.Mathlib.Omega.{arith}
 use Rattle.std.proofs.Common.{lit<}
-use Rattle.rules.specs.RouterBytes.{sound_router_bytes}
+use Rattle.rules.specs.RouterBytes.{sound_router_bytes, held_bytes, router_bytes, router_of}
 use borrow.Author.Tests.{ne_eqb, eq-eqb, eqb-true, leb-true, le-leb, not-true, not-false}
 use lib.Dec.{eqb, leb, ltb}
 use lib.ListN.{length, get_or, replicate, length-map, get_or-map}
 use Rattle.rules.specs.Words.{all, first, splice, num, num_at}
 use Rattle.rules.specs.Refusals.{Res, refuse, done, number_of, unless, bad_time}
 use Rattle.rules.specs.Prefix.{prefix, front, zero_after, fits, encodable, lease_encodable}
-use Rattle.rules.specs.Options.{area_of, in_pd, options, content}
+use Rattle.rules.specs.Options.{area_of, in_pd, options, content, spot}
 use Rattle.rules.specs.Clock.{plus}
 use Rattle.rules.specs.Message.{Listed, listed_at, ia_at, top, read}
 use Rattle.rules.specs.Identity.{Duid, good_duid, kind_of, type_of, is_release, stands}
 use Rattle.rules.specs.Box.{ia_of}
 use Rattle.rules.specs.Router.{Hold, Router, good_ia, good_ias, awaited, takes, held_until, taken, held_after, server_after, closed, accept, open_of, router_receive}
-use Rattle.rules.specs.RouterBytes.{held_bytes, router_bytes, router_of}
 use Rattle.rules.specs.Lent.{Ended, ended, settle, no_text, router_received}
 use Rattle.rules.specs.declared.Kind.{Kind}
 use Rattle.rules.specs.declared.Kind.TheVariants.{Solicit, Request, Renew, Rebind, Release}
 use Rattle.rules.specs.declared.Refusal.{Refusal}
 use Rattle.rules.specs.declared.Refusal.TheVariants.{Time, Room, Size, Unserved, Malformed, Identity, Delegation, Silence, Unsound, Settings, Busy, Early, State, Unawaited}
 use Rattle.rules.specs.declared.Spot.{Spot}
-use Rattle.rules.specs.Options.{spot}
 use Rattle.laws.specs.Tests.{both, neither, false-true}
 use Rattle.laws.specs.Refusals.{none-applies, number-refused, refused_by, unless-made}
 use Rattle.laws.specs.Every.{Every}

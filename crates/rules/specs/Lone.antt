@@ -3,12 +3,11 @@ use Rattle.std.specs.Prelude.{ℕ, ◌+◌, ◌-◌, ◌^◌, Bool, true, not, �
 use Rattle.rules.specs.Words.{all, be16, num_at, u16_at}
 use Rattle.rules.specs.Refusals.{Res, done, unless, wrong_size}
 use Rattle.rules.specs.Prefix.{Prefix, encodable, lease_encodable, exclude_bytes, unpacked}
-use Rattle.rules.specs.Options.{own, count, nth, content, option}
+use Rattle.rules.specs.Options.{own, count, nth, content, option, spot}
 use Rattle.rules.specs.Message.{Listed, Ia, status_at, listed_at, ia_at, asks67, top, well_formed, name_of, listed_bytes, ia_bytes}
 use Rattle.rules.specs.declared.Level.{Level}
 use Rattle.rules.specs.declared.Level.TheVariants.{Top, InPd, InPrefix}
 use Rattle.rules.specs.declared.Spot.{Spot}
-use Rattle.rules.specs.Options.{spot}
 
 -- ---------------------------------------------------------------- readers
 

@@ -8,7 +8,6 @@ use Rattle.rules.specs.Prefix.{Prefix, prefix, Lease, lease, exclude_bytes, unpa
 use Rattle.rules.specs.Options.{Area, area_of, check, options, nth, content, Item, item, printed}
 use Rattle.rules.specs.declared.Level.TheVariants.{Top}
 use Rattle.rules.specs.declared.Spot.{Spot}
-use Rattle.rules.specs.Options.{spot}
 
 -- ---------------------------------------------------------------- the values
 

@@ -1,8 +1,7 @@
 -- What the iterators over the places 0 to n give, in the words of the list of what stands there.
-use Rattle.std.proofs.Common.{◌≡◌, refl, sym, ap, Bool, true, false, cond, ◌∷◌, ℕ, zero, suc, ◌+◌, ◌≤◌, ◌<◌, eqb, length, Option, None, Some, MatchOption, arith}
+use Rattle.std.proofs.Common.{◌≡◌, refl, sym, ap, Bool, true, false, cond, ◌∷◌, ℕ, zero, suc, ◌+◌, ◌≤◌, ◌<◌, eqb, length, Option, None, Some, MatchOption, arith, eqb-true}
 use Rattle.std.specs.List.{filter, range_with_len}
 use Rattle.std.proofs.lemmas.Bool.{eqb-false}
-use Rattle.std.proofs.Common.{eqb-true}
 use Rattle.rules.specs.Words.{cons_if, keep, from}
 use Rattle.laws.specs.Loops.{first_place}
 

@@ -11,13 +11,11 @@ use lib.Dec.{ltb}
 use lib.ListN.{length, get_or, take, drop}
 use Rattle.rules.specs.Words.{part, num, be, num_at, u16_at}
 use Rattle.rules.specs.Prefix.{prefix, content_ok, unpacked}
-use Rattle.rules.specs.Options.{in_any, exclude_ok, own, area_of, count, nth, content}
+use Rattle.rules.specs.Options.{in_any, exclude_ok, own, area_of, count, nth, content, Checked, spot}
 use Rattle.rules.specs.Message.{except_at, listed_at, top}
 use Rattle.rules.specs.declared.Level.{Level}
 use Rattle.rules.specs.declared.Level.TheVariants.{Top, InPd, InPrefix}
-use Rattle.rules.specs.Options.{Checked}
 use Rattle.rules.specs.declared.Spot.{Spot}
-use Rattle.rules.specs.Options.{spot}
 use Rattle.laws.specs.Tests.{both, false-true}
 use Rattle.laws.specs.Parts.{part-cons}
 use Rattle.laws.specs.Numbers.{Bytes, bytes-part, num-lt, num_at-is}

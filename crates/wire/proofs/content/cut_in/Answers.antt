@@ -2,10 +2,9 @@
 use Rattle.std.specs.Prelude.{Some}
 use Rattle.std.proofs.Common.{◌∙◌, ◌≡◌, ap, sym, arith}
 use Rattle.rules.specs.Message.{except_at}
-use Rattle.rules.specs.Options.{area_of, nth}
+use Rattle.rules.specs.Options.{area_of, nth, spot}
 use Rattle.rules.specs.Prefix.{prefix}
 use Rattle.rules.specs.Words.{num}
-use Rattle.rules.specs.Options.{spot}
 use Rattle.laws.specs.Formed.{good-exclude}
 use Rattle.laws.specs.Walk.{nth_inside}
 use Rattle.values.specs.Values.{except_of}
