@@ -1,6 +1,7 @@
 -- The law of one result, and that what a contract speaks of tells a result from every other.
 --   one-result, -beside    an equation of what a faithful view sees allows one result only; one with something said beside it
 --   lent-faithful, ..      the views that contracts take of a result
+--   given-same             what an operation in code gives, by its word and its refusal
 --   read-alike, read-same  the view of a result by what is seen of its value
 use Rattle.std.specs.Prelude.{ℕ, ◌≡◌, refl, Bool, true, false, cond, List, [], ◌⊎◌, eqb, length, None, Some, Result, Ok, Err, IfOk}
 use Rattle.std.proofs.Common.{sym, ap, ◌∙◌, inl, inr, arith, eqb-true}
@@ -11,8 +12,9 @@ use Rattle.rules.specs.Lone.{Summary}
 use Rattle.rules.specs.declared.Refusal.{Refusal}
 use Rattle.rules.specs.declared.Refusal.TheVariants.{Time, Room, Size, Unserved, Malformed, Identity, Delegation, Silence, Unsound, Settings, Busy, Early, State, Unawaited}
 use Rattle.rules.specs.Prefix.{prefix}
-use Rattle.rules.specs.Lent.{Ended, ended}
+use Rattle.rules.specs.Lent.{Ended, ended, word_of}
 use Rattle.laws.specs.Numbers.{be-num}
+use Rattle.laws.specs.Refusals.{refused_by, numbered}
 use Rattle.values.specs.Values.{except_of, lease_of, listed_of}
 use Rattle.values.specs.declared.IaPrefix.{IaPrefix}
 use Rattle.narrow.specs.Single.{Single, Sixteen, ExcludeBeside, Arrays, PrefixBeside, SamePrefix, Alike, SameRead}
@@ -92,6 +94,13 @@ outcome-faithful (Ok x) (Ok y) e = ap Ok (done-same e)
 outcome-faithful (Ok x) (Err k) e = absurd (refuse-done (sym e))
 outcome-faithful (Err n) (Ok y) e = absurd (refuse-done e)
 outcome-faithful (Err n) (Err k) e = ap Err (refuse-same e)
+
+-- what an operation in code gives is told by its word and by the number with which it refuses: the word alone doesn't say which of `Ok` and `Err` it is
+pub given-same : (r r' : Result ℕ Refusal) → word_of r ≡ word_of r' → refused_by r ≡ refused_by r' → r ≡ r'
+given-same (Ok x) (Ok y) w n = ap Ok w
+given-same (Ok x) (Err k) w n = absurd (numbered k (sym n))
+given-same (Err k) (Ok y) w n = absurd (numbered k n)
+given-same (Err j) (Err k) w n = ap Err (refuse-same {A = ℕ} (ap refuse n))
 
 -- values that are told apart by what is seen of them, where Q holds of them, or are then alike
 module _ {A B : Type 0} (see : A → B) (Q : A → Type 0) where

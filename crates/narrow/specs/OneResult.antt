@@ -1,9 +1,11 @@
 -- One result only: two results that a public operation's promise allows are equal. Every public operation has its line, in the order of
--- docs/INTERFACE.md; each promise stands here as in the operation's contract. r is what an operation leaves: its word with each lent
--- array that it may write, or its answer.
+-- docs/INTERFACE.md; each promise stands here as in the operation's contract for C. r is what an operation leaves: its word with each
+-- lent array that it may write, or its answer.
 use Rattle.std.specs.Prelude.{ℕ, ◌≡◌, List, [], Result, IfOk}
 use Rattle.rules.specs.Refusals.{outcome}
+use Rattle.std.proofs.Common.{sym, ◌∙◌}
 use Rattle.rules.specs.declared.Refusal.{Refusal}
+use Rattle.laws.specs.Refusals.{refused_by}
 use Rattle.values.specs.declared.IaPrefix.{IaPrefix}
 use Rattle.rules.specs.Prefix.{Prefix}
 use Rattle.rules.specs.Message.{Listed, Ia, listed_at}
@@ -11,12 +13,12 @@ use Rattle.rules.specs.Lone.{only, read_id, read_request, read_status, read_pd, 
 use Rattle.rules.specs.Clock.{Moment}
 use Rattle.rules.specs.Identity.{Identity}
 use Rattle.rules.specs.Settings.{Settings}
-use Rattle.rules.specs.Lent.{ended, written, box_started, box_handled, box_counted, box_shown, router_started, router_sent, router_resent, router_abandoned, router_received, router_shown}
+use Rattle.rules.specs.Lent.{ended, word_of, written, box_started, box_handled, box_counted, box_shown, router_started, router_sent, router_resent, router_abandoned, router_received, router_shown}
 use Rattle.rules.specs.declared.Kind.TheVariants.{Solicit, Request, Renew, Rebind, Release}
 use Rattle.wire.specs.Client.{client_stretch}
 use Rattle.lone.specs.Answers.{id_value, Fills, exclude_value, prefix_value, pd_head, projected, message_value}
 use Rattle.narrow.specs.Single.{Single, ExcludeBeside, PrefixBeside, SameRead}
-use Rattle.narrow.specs.Faithful.{one-result, one-result-beside, lent-faithful, room-faithful, all-faithful, plain-faithful, outcome-faithful, message-faithful, id-faithful, exclude-faithful, prefix-faithful}
+use Rattle.narrow.specs.Faithful.{one-result, one-result-beside, lent-faithful, room-faithful, all-faithful, plain-faithful, outcome-faithful, given-same, message-faithful, id-faithful, exclude-faithful, prefix-faithful}
 
 -- the word and the state; the word and the room; the word, the state and the room
 abbrev Two : Type 0
@@ -42,6 +44,8 @@ pub record OneResult : Type 0 where
   pub router-abandon : (b : List ℕ) (now : Moment) → Single (λ (r : Two). ended r.0 r.1 [] ≡ router_abandoned b now)
   pub router-receive : (b : List ℕ) (now : Moment) (m : List ℕ) → Single (λ (r : Two). ended r.0 r.1 [] ≡ router_received b now m)
   pub router-held : (b : List ℕ) (now : Moment) (out : List ℕ) → Single (λ (r : Two). ended r.0 b r.1 ≡ router_shown b now out)
+  -- what any of these gives in code, where its contract names the word w and the number n of the refusal
+  pub given : (w n : ℕ) → Single (λ (r : Result ℕ Refusal). (word_of r ≡ w) × (refused_by r ≡ n))
   -- readers
   pub client-id : (m : List ℕ) → Single (λ r. r ≡ client_stretch m)
   pub read-message : (m : List ℕ) → Single (λ r. message_value r ≡ read_message m)
@@ -79,6 +83,7 @@ one-result-only = record {
   router-abandon = λ b now. one-result lent-faithful _;
   router-receive = λ b now m. one-result lent-faithful _;
   router-held = λ b now out. one-result (room-faithful b) _;
+  given = λ w n r r' p q. given-same r r' (p.0 ∙ sym q.0) (p.1 ∙ sym q.1);
   client-id = λ m. one-result plain-faithful _;
   read-message = λ m. one-result message-faithful _;
   read-id = λ m w. one-result-beside (id-faithful m) _;
