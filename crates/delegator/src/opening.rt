@@ -1,7 +1,9 @@
 // The box is started: an empty table, with settings that are good.
 ghost use Rattle.std.specs.Prelude.{◌≡◌, []};
 ghost use Rattle.rules.specs.Settings.{good_settings};
+ghost use Rattle.rules.specs.Box.{start_tests};
 ghost use Rattle.rules.specs.Lent.{ended, word_of, box_started};
+ghost use Rattle.laws.specs.Refusals.{number, refused_by};
 ghost use Rattle.delegator.specs.Given.{given};
 
 use prefix::half::Half;
@@ -51,7 +53,8 @@ pub fn start(
     own: &[u8],
     time: u64,
 ) -> Result<usize, Refusal>
-    ensures { ended (word_of result) t.new [] ≡ box_started t.old (given high low width shortest standard preferred valid exclusion own.now) time }
+    ensures word { ended (word_of result) t.new [] ≡ box_started t.old (given high low width shortest standard preferred valid exclusion own.now) time }
+    ensures refusal { refused_by result ≡ number (start_tests (good_settings (given high low width shortest standard preferred valid exclusion own.now)) time) }
 {
     if !good_settings(
         high, low, width, shortest, standard, preferred, valid, exclusion, own,

@@ -4,8 +4,8 @@ use Rattle.laws.specs.Refusals.{goes}
 use Rattle.delegator.proofs.Handle.{refused, is-sound, is-accepted, is-ready, has-notes, is-handled}
 use Rattle.delegator.proofs.handling.handle.Goals as goal
 
-pub returns-in_err-pd : goal.returns-in_err-pd
-returns-in_err-pd c =
+pub returns-in_err-pd-clause-word : goal.returns-in_err-pd-clause-word
+returns-in_err-pd-clause-word c =
     let e : c.from_residual.result ≡ Err c.in_err-pd.field-0.0 = search rules in
     refused _ _ _ _ c.judge.ensures.0 c.in_err-pd.was e _ refl
 
@@ -20,5 +20,5 @@ serve-requires c = (
   c.in_ok-pd.ensures.1,
 )
 
-pub returns : goal.returns
-returns c = c.serve.ensures ∙ is-handled _ _ _ _ c.judge.ensures.0 (goes c.in_ok-pd.was) c.tidy.ensures _ refl
+pub returns-clause-word : goal.returns-clause-word
+returns-clause-word c = c.serve.ensures ∙ is-handled _ _ _ _ c.judge.ensures.0 (goes c.in_ok-pd.was) c.tidy.ensures _ refl
