@@ -111,7 +111,8 @@ fn server_after(msg: &[u8], kind: u64) -> &[u8]
 
 // The message awaited closes the exchange. Nothing is written out: the length is 0.
 pub fn receive(t: &mut [u8], time: u64, msg: &[u8]) -> Result<usize, Refusal>
-    ensures { ended (word_of result) t.new [] ≡ router_received t.old time msg.now }
+    ensures word { ended (word_of result) t.new [] ≡ router_received t.old time msg.now }
+    ensures refusal { refused_by result ≡ judged t.old time msg.now }
 {
     judge(t, time, msg)?;
     let kind = cells::get(t, 346, 1);

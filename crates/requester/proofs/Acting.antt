@@ -19,14 +19,14 @@ use Rattle.rules.specs.declared.Kind.{Kind}
 use Rattle.rules.specs.declared.Refusal.{Refusal}
 use Rattle.laws.specs.Tests.{both}
 use Rattle.laws.specs.Every.{Every}
-use Rattle.laws.specs.Refusals.{numbered, none-applies, number-refused, unless-made, in-time}
+use Rattle.laws.specs.Refusals.{number, numbered, none-applies, number-refused, unless-made, in-time}
 use Rattle.laws.specs.Parts.{length_part}
 use Rattle.laws.specs.RouterFields.{hold-size}
 use Rattle.laws.specs.RouterRepresent.{inner-rest, router-round, router-bytes-sound, router-sound-bytes}
 use Rattle.laws.specs.RouterChange.{fresh, start-fresh, held_bytes_lem}
 use Rattle.laws.specs.RouterKeeps.{begun-sound, again-sound, open-some}
 use Rattle.state.specs.Judged.{state_tests, by_state}
-use Rattle.state.specs.Facts.{state-here, state-none, state-sound, state-size, router-once}
+use Rattle.state.specs.Facts.{state-here, state-later, state-none, state-sound, state-size, router-once}
 use Rattle.requester.specs.Judged.{times_tests, kind_tests, open_tests, sending_tests, resending_tests, abandoning_tests, by_sending, by_resending, by_abandoning}
 use Rattle.requester.specs.Written.{Open, exchange_in, query_of, Put}
 
@@ -232,7 +232,20 @@ module _ (b : List ℕ) (now : ℕ) (out : List ℕ) where
   pub shown-refused : (x : Refusal) → number_of x ≡ by_state b now → ended (number_of x * 65536) b out ≡ router_shown b now out
   shown-refused x e = sym (shown-is ∙ ap (asked b out) (number-refused (state_tests b now ++ vs) (done text) (state-here b now e vs (numbered x)) (numbered x)))
 
+  -- the number alone
+  pub held-refused : (x : Refusal) → number_of x ≡ by_state b now → number_of x ≡ number (state_tests b now ++ vs)
+  held-refused x e = state-here b now e vs (numbered x)
+
   module _ (e : 0 ≡ by_state b now) where
+    held-tested : {t : Bool} → ltb (length out) 42 ≡ t → cond t 2 0 ≡ number (state_tests b now ++ vs)
+    held-tested h = sym (state-later b now e refl vs ∙ ap (λ t. cond t 2 0) h)
+
+    pub held-2 : length out < 42 → 2 ≡ number (state_tests b now ++ vs)
+    held-2 h = held-tested (lt-ltb (length out) 42 h)
+
+    pub held-0 : 42 ≤ length out → 0 ≡ number (state_tests b now ++ vs)
+    held-0 h = held-tested (le-ltb (length out) 42 h)
+
     tested : {t : Bool} → ltb (length out) 42 ≡ t → router_shown b now out ≡ asked b out (cond t (refuse 2) (done text))
     tested h = let p = state-none b now e refl in shown-is ∙ rw (p.0, p.1.0, h)
 

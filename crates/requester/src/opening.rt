@@ -1,7 +1,10 @@
 // The router is started: a fresh state, for an identity and a wanted length that are good.
 ghost use Rattle.std.specs.Prelude.{◌≡◌, []};
 ghost use Rattle.rules.specs.Identity.{identity};
+ghost use Rattle.rules.specs.Box.{start_tests};
+ghost use Rattle.rules.specs.Router.{good_asker};
 ghost use Rattle.rules.specs.Lent.{ended, word_of, router_started};
+ghost use Rattle.laws.specs.Refusals.{refused_by, number};
 
 use rules::Refusal;
 
@@ -12,7 +15,8 @@ pub fn start(
     wanted: u64,
     time: u64,
 ) -> Result<usize, Refusal>
-    ensures { ended (word_of result) t.new [] ≡ router_started t.old (identity duid.now iaid) wanted time }
+    ensures word { ended (word_of result) t.new [] ≡ router_started t.old (identity duid.now iaid) wanted time }
+    ensures refusal { refused_by result ≡ number (start_tests (good_asker (identity duid.now iaid) wanted) time) }
 {
     if !((3 <= duid.len()) & (duid.len() <= 130) & (wanted <= 64)) {
         return Err(Refusal::Settings);
