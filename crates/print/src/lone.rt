@@ -1,12 +1,15 @@
 // The public writers of one option that stands alone, of any values and into any room. Each answers the length of what was
-// written; a refusal writes nothing.
-ghost use Rattle.std.specs.Prelude.{◌≡◌, []};
+// written; a refusal writes nothing. Their clause `word` says what stands in the room, and `refusal` which of Ok and Err is given.
+ghost use Rattle.std.specs.Prelude.{◌≡◌, true, [], ◌∷◌, ◌+◌, leb, ltb, length};
 ghost use Rattle.rules.specs.Words.{num};
-ghost use Rattle.rules.specs.Prefix.{prefix};
-ghost use Rattle.rules.specs.Lone.{write_id, write_request, write_status, write_exclude, write_prefix, write_pd};
+ghost use Rattle.rules.specs.Prefix.{prefix, encodable, bytes_for};
+ghost use Rattle.rules.specs.Options.{option, printed};
+ghost use Rattle.rules.specs.Message.{status_item, ia_bytes};
+ghost use Rattle.rules.specs.Lone.{listed_encodes, ia_encodes, write_id, write_request, write_status, write_exclude, write_prefix, write_pd};
 ghost use Rattle.rules.specs.Lent.{ended, word_of, written};
 ghost use Rattle.laws.specs.Refusals.{refused_by};
 ghost use Rattle.values.specs.Values.{listed_of, ia_of};
+ghost use Rattle.print.specs.Bytes.{prefix_bytes};
 ghost use Rattle.print.specs.Lone.{refusal_of};
 
 use crate::able::{encodes, pd_encodes, trimmed};
@@ -32,21 +35,24 @@ fn refusal(able: bool, size: usize, room: usize) -> Result<(), Refusal>
 
 // A Client ID or a Server ID.
 pub fn write_id(out: &mut [u8], code: u16, duid: &[u8]) -> Result<usize, Refusal>
-    ensures { ended (word_of result) [] out.new ≡ written out.old (write_id code duid.now) }
+    ensures word { ended (word_of result) [] out.new ≡ written out.old (write_id code duid.now) }
+    ensures refusal { refused_by result ≡ refusal_of (leb (length duid.now) 65535) (4 + length duid.now) (length out.old) }
 {
     refusal(duid.len() <= 65535, 4 + duid.len(), out.len())?;
     Ok(put_option(out, 0, code as usize, duid))
 }
 
 pub fn write_request(out: &mut [u8]) -> Result<usize, Refusal>
-    ensures { ended (word_of result) [] out.new ≡ written out.old write_request }
+    ensures word { ended (word_of result) [] out.new ≡ written out.old write_request }
+    ensures refusal { refused_by result ≡ refusal_of true 6 (length out.old) }
 {
     refusal(true, 6, out.len())?;
     Ok(put_asks(out, 0, true))
 }
 
 pub fn write_status(out: &mut [u8], k: usize) -> Result<usize, Refusal>
-    ensures { ended (word_of result) [] out.new ≡ written out.old (write_status k) }
+    ensures word { ended (word_of result) [] out.new ≡ written out.old (write_status k) }
+    ensures refusal { refused_by result ≡ refusal_of (ltb k 65536) (length (printed (status_item k ∷ []))) (length out.old) }
 {
     refusal(k < 65536, status_size(k), out.len())?;
     Ok(put_status(out, 0, k))
@@ -60,7 +66,8 @@ pub fn write_exclude(
     e: [u8; 16],
     b: usize,
 ) -> Result<usize, Refusal>
-    ensures { ended (word_of result) [] out.new ≡ written out.old (write_exclude (prefix (num p) a) (prefix (num e) b)) }
+    ensures word { ended (word_of result) [] out.new ≡ written out.old (write_exclude (prefix (num p) a) (prefix (num e) b)) }
+    ensures refusal { refused_by result ≡ refusal_of (encodable (prefix (num p) a) (prefix (num e) b)) (5 + bytes_for a b) (length out.old) }
 {
     refusal(
         prefix::exclude::encodable(p, a, e, b),
@@ -71,14 +78,16 @@ pub fn write_exclude(
 }
 
 pub fn write_prefix(out: &mut [u8], x: IaPrefix) -> Result<usize, Refusal>
-    ensures { ended (word_of result) [] out.new ≡ written out.old (write_prefix (listed_of x [])) }
+    ensures word { ended (word_of result) [] out.new ≡ written out.old (write_prefix (listed_of x [])) }
+    ensures refusal { refused_by result ≡ refusal_of (listed_encodes (listed_of x [])) (length (prefix_bytes x)) (length out.old) }
 {
     refusal(encodes(x), prefix_size(x), out.len())?;
     Ok(put_prefix(out, 0, x))
 }
 
 pub fn write_pd(out: &mut [u8], d: Pd) -> Result<usize, Refusal>
-    ensures { ended (word_of result) [] out.new ≡ written out.old (write_pd (ia_of d)) }
+    ensures word { ended (word_of result) [] out.new ≡ written out.old (write_pd (ia_of d)) }
+    ensures refusal { refused_by result ≡ refusal_of (ia_encodes (ia_of d)) (length (option 25 (ia_bytes (ia_of d)))) (length out.old) }
 {
     let t = trimmed(d);
     refusal(pd_encodes(t), pd_size(t), out.len())?;
