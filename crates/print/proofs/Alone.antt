@@ -202,17 +202,3 @@ module _ {able : Bool} {w : ℕ} {s out : List ℕ} {q : Result (Unit {0}) Refus
   lone-written h p =
       let a = lone-able h in
       rw (a.0, le-leb (length s) 65535 a.1, le-ltb (length out) (length (option w s)) a.2, (wrote-whole p).0, (wrote-whole p).1)
-
--- ---------------------------------------------------------------- which of Ok and Err a writer gives
-
--- q judges by t and m, which are `able` and `size`
-module _ (out : List ℕ) {able t : Bool} {size m : ℕ} (h : t ≡ able) (l : m ≡ size) where
-  told : {n : ℕ} → n ≡ refusal_of t m (length out) → n ≡ refusal_of able size (length out)
-  told e = rw (← h, ← l) e
-
-  module _ {q : Result (Unit {0}) Refusal} (e : refused_by q ≡ refusal_of t m (length out)) where
-    pub err-told : {f : Refusal} {r : Result ℕ Refusal} → q ≡ Err f → r ≡ Err f → refused_by r ≡ refusal_of able size (length out)
-    err-told g k = ap refused_by k ∙ sym (ap refused_by g) ∙ told e
-
-    pub ok-told : {u : Unit {0}} → q ≡ Ok u → 0 ≡ refusal_of able size (length out)
-    ok-told g = sym (ap refused_by g) ∙ told e

@@ -1,5 +1,6 @@
 // The public writers of one option that stands alone, of any values and into any room. Each answers the length of what was
-// written; a refusal writes nothing. Their clause `word` says what stands in the room, and `refusal` which of Ok and Err is given.
+// written; a refusal writes nothing. The clause `word` says what C is told and what stands in the room, and `refusal` which of
+// Ok and Err it is: a word alone could be of either.
 ghost use Rattle.std.specs.Prelude.{◌≡◌, true, [], ◌∷◌, ◌+◌, leb, ltb, length};
 ghost use Rattle.rules.specs.Words.{num};
 ghost use Rattle.rules.specs.Prefix.{prefix, encodable, bytes_for};

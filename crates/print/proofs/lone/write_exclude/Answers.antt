@@ -2,7 +2,7 @@
 use Rattle.std.proofs.Common.{rules, ◌≡◌, Err, zero-add, le_of_lt}
 use Rattle.rules.specs.Lone.{write_exclude}
 use Rattle.laws.specs.Exclude.{encodes}
-use Rattle.print.proofs.Alone.{exclude-judged, lone-refused, lone-able, lone-written, err-told, ok-told}
+use Rattle.print.proofs.Alone.{exclude-judged, lone-refused, lone-able, lone-written}
 use Rattle.print.proofs.lone.write_exclude.Goals as goal
 
 pub returns-in_err-refusal-clause-word : goal.returns-in_err-refusal-clause-word
@@ -10,11 +10,6 @@ unfolding write_exclude
 returns-in_err-refusal-clause-word c =
     let e : c.from_residual.result ≡ Err c.in_err-refusal.field-0.0 = search rules in
     lone-refused (exclude-judged c.args.out.now _ _ c.encodable.ensures c.exclude_size.ensures.0 c.refusal.ensures) c.in_err-refusal.was e
-
-pub returns-in_err-refusal-clause-refusal : goal.returns-in_err-refusal-clause-refusal
-returns-in_err-refusal-clause-refusal c =
-    let e : c.from_residual.result ≡ Err c.in_err-refusal.field-0.0 = search rules in
-    err-told c.args.out.now c.encodable.ensures c.exclude_size.ensures.0 c.refusal.ensures c.in_err-refusal.was e
 
 pub put_exclude-requires : goal.put_exclude-requires
 put_exclude-requires c =
@@ -25,6 +20,3 @@ put_exclude-requires c =
 pub returns-clause-word : goal.returns-clause-word
 unfolding write_exclude
 returns-clause-word c = lone-written (exclude-judged c.args.out.now _ _ c.encodable.ensures c.exclude_size.ensures.0 c.refusal.ensures) c.in_ok-refusal.was c.put_exclude.ensures
-
-pub returns-clause-refusal : goal.returns-clause-refusal
-returns-clause-refusal c = ok-told c.args.out.now c.encodable.ensures c.exclude_size.ensures.0 c.refusal.ensures c.in_ok-refusal.was

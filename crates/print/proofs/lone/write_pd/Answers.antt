@@ -1,10 +1,10 @@
 -- An IA_PD that has an encoding: trimmed, it is the same.
-use Rattle.std.proofs.Common.{rules, ◌≡◌, Err, ap, ◌<◌, ◌^◌, zero-add, sym, ◌∙◌, length}
+use Rattle.std.proofs.Common.{rules, ◌≡◌, Err, ap, ◌<◌, ◌^◌, zero-add, length}
 use Rattle.rules.specs.Options.{option}
 use Rattle.rules.specs.Message.{Ia, ia_bytes}
 use Rattle.rules.specs.Lone.{write_pd}
 use Rattle.laws.specs.Writes.{wrote_as}
-use Rattle.print.proofs.Alone.{pd-encodes, pd-free, pd-judged, lone-refused, lone-able, lone-written, err-told, ok-told}
+use Rattle.print.proofs.Alone.{pd-encodes, pd-free, pd-judged, lone-refused, lone-able, lone-written}
 use Rattle.print.proofs.lone.write_pd.Goals as goal
 
 pub returns-in_err-refusal-clause-word : goal.returns-in_err-refusal-clause-word
@@ -16,8 +16,9 @@ returns-in_err-refusal-clause-word c =
 
 pub returns-in_err-refusal-clause-refusal : goal.returns-in_err-refusal-clause-refusal
 returns-in_err-refusal-clause-refusal c =
-    let e : c.from_residual.result ≡ Err c.in_err-refusal.field-0.0 = search rules in
-    err-told c.args.out.now (sym (pd-encodes _ _ c.trimmed-t.ensures c.pd_encodes.ensures (search rules) (search rules) (search rules))) (c.pd_size.ensures ∙ ap (λ (i : Ia). length (option 25 (ia_bytes i))) c.trimmed-t.ensures.same) c.refusal.ensures c.in_err-refusal.was e
+    let t = pd-encodes _ _ c.trimmed-t.ensures c.pd_encodes.ensures (search rules) (search rules) (search rules) in
+    let s = ap (λ (i : Ia). length (option 25 (ia_bytes i))) c.trimmed-t.ensures.same in
+    search rules
 
 pub put_pd-requires : goal.put_pd-requires
 put_pd-requires c =
@@ -35,4 +36,7 @@ returns-clause-word c =
     (wrote_as (ap (λ (i : Ia). option 25 (ia_bytes i)) c.trimmed-t.ensures.same) c.put_pd.ensures)
 
 pub returns-clause-refusal : goal.returns-clause-refusal
-returns-clause-refusal c = ok-told c.args.out.now (sym (pd-encodes _ _ c.trimmed-t.ensures c.pd_encodes.ensures (search rules) (search rules) (search rules))) (c.pd_size.ensures ∙ ap (λ (i : Ia). length (option 25 (ia_bytes i))) c.trimmed-t.ensures.same) c.refusal.ensures c.in_ok-refusal.was
+returns-clause-refusal c =
+    let t = pd-encodes _ _ c.trimmed-t.ensures c.pd_encodes.ensures (search rules) (search rules) (search rules) in
+    let s = ap (λ (i : Ia). length (option 25 (ia_bytes i))) c.trimmed-t.ensures.same in
+    search rules

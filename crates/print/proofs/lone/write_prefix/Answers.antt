@@ -2,7 +2,7 @@
 use Rattle.std.proofs.Common.{rules, ◌≡◌, Err, zero-add}
 use Rattle.rules.specs.Lone.{write_prefix}
 use Rattle.print.specs.Bytes.{prefix_bytes}
-use Rattle.print.proofs.Alone.{encodes-lease, prefix-judged, lone-refused, lone-able, lone-written, err-told, ok-told}
+use Rattle.print.proofs.Alone.{encodes-lease, prefix-judged, lone-refused, lone-able, lone-written}
 use Rattle.print.proofs.lone.write_prefix.Goals as goal
 
 pub returns-in_err-refusal-clause-word : goal.returns-in_err-refusal-clause-word
@@ -10,11 +10,6 @@ unfolding write_prefix
 returns-in_err-refusal-clause-word c =
     let e : c.from_residual.result ≡ Err c.in_err-refusal.field-0.0 = search rules in
     lone-refused (prefix-judged c.args.out.now c.args.x c.encodes.ensures c.prefix_size.ensures.0 c.refusal.ensures) c.in_err-refusal.was e
-
-pub returns-in_err-refusal-clause-refusal : goal.returns-in_err-refusal-clause-refusal
-returns-in_err-refusal-clause-refusal c =
-    let e : c.from_residual.result ≡ Err c.in_err-refusal.field-0.0 = search rules in
-    err-told c.args.out.now c.encodes.ensures c.prefix_size.ensures.0 c.refusal.ensures c.in_err-refusal.was e
 
 pub put_prefix-requires : goal.put_prefix-requires
 unfolding prefix_bytes
@@ -25,6 +20,3 @@ put_prefix-requires c =
 pub returns-clause-word : goal.returns-clause-word
 unfolding write_prefix prefix_bytes
 returns-clause-word c = lone-written (prefix-judged c.args.out.now c.args.x c.encodes.ensures c.prefix_size.ensures.0 c.refusal.ensures) c.in_ok-refusal.was c.put_prefix.ensures
-
-pub returns-clause-refusal : goal.returns-clause-refusal
-returns-clause-refusal c = ok-told c.args.out.now c.encodes.ensures c.prefix_size.ensures.0 c.refusal.ensures c.in_ok-refusal.was

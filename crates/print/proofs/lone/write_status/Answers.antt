@@ -3,7 +3,7 @@ use Rattle.std.proofs.Common.{rules, ◌≡◌, Err, refl, zero-add, ltb-true}
 use Rattle.rules.specs.Lone.{write_status}
 use Rattle.laws.specs.Writes.{wrote_as}
 use Rattle.print.proofs.Laws.{status-named}
-use Rattle.print.proofs.Alone.{status-judged, lone-refused, lone-able, lone-written, err-told, ok-told}
+use Rattle.print.proofs.Alone.{status-judged, lone-refused, lone-able, lone-written}
 use Rattle.print.proofs.lone.write_status.Goals as goal
 
 pub returns-in_err-refusal-clause-word : goal.returns-in_err-refusal-clause-word
@@ -11,11 +11,6 @@ unfolding write_status
 returns-in_err-refusal-clause-word c =
     let e : c.from_residual.result ≡ Err c.in_err-refusal.field-0.0 = search rules in
     lone-refused (status-judged c.args.out.now c.args.k c.status_size.ensures.0 c.refusal.ensures) c.in_err-refusal.was e
-
-pub returns-in_err-refusal-clause-refusal : goal.returns-in_err-refusal-clause-refusal
-returns-in_err-refusal-clause-refusal c =
-    let e : c.from_residual.result ≡ Err c.in_err-refusal.field-0.0 = search rules in
-    err-told c.args.out.now refl c.status_size.ensures.0 c.refusal.ensures c.in_err-refusal.was e
 
 pub put_status-requires : goal.put_status-requires
 put_status-requires c =
@@ -27,6 +22,3 @@ unfolding write_status
 returns-clause-word c =
     lone-written (status-judged c.args.out.now c.args.k c.status_size.ensures.0 c.refusal.ensures) c.in_ok-refusal.was
     (wrote_as (status-named _ _ refl) c.put_status.ensures)
-
-pub returns-clause-refusal : goal.returns-clause-refusal
-returns-clause-refusal c = ok-told c.args.out.now refl c.status_size.ensures.0 c.refusal.ensures c.in_ok-refusal.was
