@@ -3,6 +3,7 @@
 --   low, read       the last bytes of a number; the number in the last bytes of a word
 --   or-zeros        the bytes together are zero where each of them is
 --   zero-ends       zeros in the first block and in the last one, where there is no room for a third
+--   block-more      zeros block by block, and block-other, block-last
 --   equal           what `==` says; last-other: lists whose last bytes differ; same-more: one byte more is compared
 --   written         all of these but `read` and `last-other`: src/lib.rt names them for every goal
 use Rattle.std.proofs.Common.{◌≡◌, ℕ, zero, suc, ◌+◌, ◌-◌, ◌*◌, ◌/◌, ◌%◌, ◌^◌, ◌≤◌, ◌<◌, Bool, true, false, ◌&&◌, List, [], ◌∷◌, ◌++◌, eqb, length, get_or, take, drop, replicate, refl, sym, ap, ◌∙◌, arith, zero-add, zero-mul, suc-add, append_assoc, append-nil, length-append, drop-drop, ne_eqb, bit_or, Fits, w8, w64}
@@ -10,6 +11,7 @@ use Rattle.std.proofs.Math.Bool.{and_assoc, and-true}
 use Rattle.std.proofs.Math.Dec.{eqb-suc-zero}
 use Rattle.std.proofs.Math.ListN.{drop_of_length-le}
 use Rattle.std.proofs.Math.Seq.{take-add}
+use Rattle.std.proofs.lemmas.Bool.{and_from, and_left, and_right, and_parts}
 use Rattle.std.proofs.lemmas.List.{take_all, take-replicate, length-replicate}
 use Rattle.std.proofs.lemmas.Nat.{le_or_l}
 use Rattle.std.proofs.lemmas.Slice.Eq.{text_from_reads}
@@ -120,6 +122,21 @@ module _ (t : List ℕ) where
       let b = w + w - n in
       let m : at + a + b ≡ at + w = omega arith in
       rw (e, f, zeros-two at w a n (omega arith), zeros-two at a b w (omega arith), zeros-two (at + a) b a w (omega arith), m) (three (zeros at a) (zeros (at + a) b) (zeros (at + w) a))
+
+  -- block by block: one more is zero; one isn't; the last one, of which some was looked at before
+  pub block-more : (at i w : ℕ) {n : ℕ} → n ≡ i + w → zeros at i ≡ true → zeros (at + i) w ≡ true → zeros at n ≡ true
+  block-more at i w e h g = zeros-two at i w _ e ∙ and_from _ _ h g
+
+  pub block-other : (at i w n : ℕ) → i + w ≤ n → zeros (at + i) w ≡ false → false ≡ zeros at n
+  block-other at i w n h e =
+      let l : zeros (at + i) (n - i) ≡ false = zeros-two (at + i) w (n - i - w) (n - i) (omega arith) ∙ and_left _ _ e in
+      sym (zeros-two at i (n - i) n (omega arith) ∙ and_right _ _ l)
+
+  pub block-last : (at i w n : ℕ) {x : Bool} → zeros at i ≡ true → w ≤ n → n ≤ i + w → i ≤ n → x ≡ zeros (at + (n - w)) w → x ≡ zeros at n
+  block-last at i w n h f g l e =
+      let a = n - w in
+      let front : zeros at a ≡ true = (and_parts _ _ (sym (zeros-two at a (i - a) i (omega arith)) ∙ h)).0 in
+      e ∙ sym (zeros-two at a w n (omega arith) ∙ rw front refl)
 
 -- ---------------------------------------------------------------- the same bytes
 

@@ -94,12 +94,21 @@ pub fn same_bytes(t: &[u8], at: usize, s: &[u8]) -> bool
     t[at..at + n] == s[..]
 }
 
-// Whether the n bytes from `at` are zero. All are looked at, in no order, so that the compiler takes 16 and more at once.
-pub fn all_zero(t: &[u8], at: usize, n: usize) -> bool
+// Whether the n bytes from `at` are zero. All are looked at, in no order, so that the compiler takes 16 and more at once where
+// it knows n.
+fn zeros(t: &[u8], at: usize, n: usize) -> bool
     requires { at + n ≤ length t.now }
     ensures { result ≡ all (eqb 0) (part at n t.now) }
 {
     t[at..at + n].iter().fold(0, |any, b| any | *b) == 0
+}
+
+// The same of at least N bytes and no more than twice as many: the first N and the last leave nothing between.
+fn ends_zero<const N: usize>(t: &[u8], at: usize, n: usize) -> bool
+    requires { (N ≤ n) × (n ≤ N + N) × (at + n ≤ length t.now) }
+    ensures { result ≡ all (eqb 0) (part at n t.now) }
+{
+    zeros(t, at, N) & zeros(t, at + (n - N), N)
 }
 
 // The same of at most 128 bytes, as the zeros after a DUID: most are more than half of them, and take no loop.
@@ -108,7 +117,32 @@ pub fn few_zero(t: &[u8], at: usize, n: usize) -> bool
     ensures { result ≡ all (eqb 0) (part at n t.now) }
 {
     if 64 <= n {
-        return all_zero(t, at, 64) & all_zero(t, at + (n - 64), 64);
+        return ends_zero::<64>(t, at, n);
     }
-    all_zero(t, at, n)
+    if 32 <= n {
+        return ends_zero::<32>(t, at, n);
+    }
+    if 16 <= n {
+        return ends_zero::<16>(t, at, n);
+    }
+    if 8 <= n {
+        return ends_zero::<8>(t, at, n);
+    }
+    zeros(t, at, n)
+}
+
+// The same of any number, by blocks of 64 as far as they are zero. The last 64 may be some that were looked at before.
+pub fn all_zero(t: &[u8], at: usize, n: usize) -> bool
+    requires { at + n ≤ length t.now }
+    ensures { result ≡ all (eqb 0) (part at n t.now) }
+{
+    if n < 64 {
+        return few_zero(t, at, n);
+    }
+    for k in 0..n / 64 {
+        if !zeros(t, at + 64 * k, 64) {
+            return false;
+        }
+    }
+    zeros(t, at + (n - 64), 64)
 }
