@@ -7,7 +7,7 @@ ghost use Rattle.rules.specs.TableBytes.{record_at};
 ghost use Rattle.rules.specs.Choose.{lowest, shortest_from};
 ghost use Rattle.laws.specs.Places.{last_place};
 ghost use Rattle.prefix.specs.Upper.{half_of};
-ghost use Rattle.choose.specs.Choice.{settings_by};
+ghost use Rattle.choose.specs.Choice.{chooser, settings_by, Walkable};
 
 use super::chooser::Chooser;
 use prefix::half::Half;
@@ -29,42 +29,50 @@ fn past(t: &[u8], i: usize, a: u64) -> u64
     last_place(fields::area_at(t, i), a) + 1
 }
 
-impl Chooser<'_> {
-    // The lowest free place of length a in the pool, by the upper half of its bits: each try compares with the records in table order
-    // until one overlaps, and goes on past that one's end.
-    fn lowest(self, a: u64) -> Option<u64>
-        requires { (self.pool.length ≤ a) × (a ≤ 60) }
-        ensures { option_map (λ x. x * 2 ^ 64) result ≡ lowest (settings_by self.entry) (from (record_at self.entry.t.now) 0 self.entry.n) a }
-    {
-        let s = 64 - a;
-        let last = last_place(self.pool, a);
-        let mut k = self.pool.upper >> s;
-        loop {
-            let upper = k << s;
-            match search::first_hit(self.t, self.n, Half { upper, length: a }) {
-                None => {
-                    return Some(upper);
-                }
-                Some(i) => {
-                    k = past(self.t, i, a);
-                    if last < k {
-                        return None;
-                    }
+// The lowest free place of length a in the pool, by the upper half of its bits: each try compares with the records in table order
+// until one overlaps, and goes on past that one's end.
+pub fn lowest(t: &[u8], n: usize, pool: Half, a: u64) -> Option<u64>
+    requires { Walkable t.now n pool.upper pool.length × (pool.length ≤ a) × (a ≤ 60) }
+    ensures { option_map (λ x. x * 2 ^ 64) result ≡ lowest (chooser pool.upper pool.length 0 0) (from (record_at t.now) 0 n) a }
+{
+    let s = 64 - a;
+    let last = last_place(pool, a);
+    let mut k = pool.upper >> s;
+    loop {
+        let upper = k << s;
+        match search::first_hit(t, n, Half { upper, length: a }) {
+            None => {
+                return Some(upper);
+            }
+            Some(i) => {
+                k = past(t, i, a);
+                if last < k {
+                    return None;
                 }
             }
         }
     }
+}
 
-    // The lowest free place of the shortest length from `least` to 60 that has one.
+// The lowest free place of the shortest length from `least` to 60 that has one.
+pub fn shortest_from(t: &[u8], n: usize, pool: Half, least: u64) -> Option<Half>
+    requires { Walkable t.now n pool.upper pool.length × (pool.length ≤ least) }
+    ensures { option_map half_of result ≡ shortest_from (61 - least) (chooser pool.upper pool.length 0 0) (from (record_at t.now) 0 n) least }
+{
+    for a in least..61 {
+        if let Some(upper) = lowest(t, n, pool, a) {
+            return Some(Half { upper, length: a });
+        }
+    }
+    None
+}
+
+impl Chooser<'_> {
+    // The same, of what a choice goes by.
     pub fn shortest_from(self, least: u64) -> Option<Half>
         requires { self.pool.length ≤ least }
         ensures { option_map half_of result ≡ shortest_from (61 - least) (settings_by self.entry) (from (record_at self.entry.t.now) 0 self.entry.n) least }
     {
-        for a in least..61 {
-            if let Some(upper) = self.lowest(a) {
-                return Some(Half { upper, length: a });
-            }
-        }
-        None
+        shortest_from(self.t, self.n, self.pool, least)
     }
 }

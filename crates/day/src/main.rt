@@ -29,14 +29,20 @@ fn day(rt: &impl Print, text: &[u8]) -> io::Result<()> {
     Ok(())
 }
 
-// Reads until the room is full or the input ends: the front of the room, as far as it was filled.
+// Reads until the room is full or the input ends: the front of the room, as far as it was filled. It stays a while, for each read
+// is given all the room that is left: of a socket that keeps its packets apart, io::copy would cut off what its own room doesn't hold.
 fn read_full<'a>(input: &mut impl Read, room: &'a mut [u8]) -> io::Result<&'a [u8]>
     ensures { IfOk result (λ text. length text.now ≤ length room.old) }
 {
-    let size = room.len();
-    let mut rest = &mut room[..];
-    let n = io::copy(&mut input.by_ref().take(size as u64), &mut rest)?;
-    Ok(&room[..size.min(n as usize)])
+    let mut n = 0;
+    while n < room.len() {
+        let more = input.read(&mut room[n..])?;
+        if more == 0 {
+            break;
+        }
+        n += more;
+    }
+    Ok(&room[..n])
 }
 
 fn main(rt: HostRuntime) -> io::Result<()> {

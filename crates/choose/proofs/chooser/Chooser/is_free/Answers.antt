@@ -1,6 +1,0 @@
--- `is_free`: nothing overlaps, or the first that does.
-use Rattle.choose.proofs.Laws.{free-is}
-use Rattle.choose.proofs.chooser.Chooser.is_free.Goals as goal
-
-pub returns : goal.returns
-returns c = free-is c.args.self _ _ _ c.first_hit.ensures c.is_none.ensures
