@@ -139,7 +139,7 @@ pub fn all_zero(t: &[u8], at: usize, n: usize) -> bool
     if n < 64 {
         return few_zero(t, at, n);
     }
-    for k in 0..n / 64 {
+    for k in 0..(n - 1) / 64 {
         if !zeros(t, at + 64 * k, 64) {
             return false;
         }
