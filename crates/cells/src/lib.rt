@@ -111,13 +111,26 @@ fn ends_zero<const N: usize>(t: &[u8], at: usize, n: usize) -> bool
     zeros(t, at, N) & zeros(t, at + (n - N), N)
 }
 
-// The same of at most 128 bytes, as the zeros after a DUID: most are more than half of them, and take no loop.
-pub fn few_zero(t: &[u8], at: usize, n: usize) -> bool
-    requires { (n ≤ 128) × (at + n ≤ length t.now) }
+// The same of 64 and more, by blocks of 64 as far as they are zero. The last 64 may be some that were looked at before.
+fn blocks_zero(t: &[u8], at: usize, n: usize) -> bool
+    requires { (64 ≤ n) × (at + n ≤ length t.now) }
+    ensures { result ≡ all (eqb 0) (part at n t.now) }
+{
+    for k in 0..(n - 1) / 64 {
+        if !zeros(t, at + 64 * k, 64) {
+            return false;
+        }
+    }
+    zeros(t, at + (n - 64), 64)
+}
+
+// The same of any number.
+pub fn all_zero(t: &[u8], at: usize, n: usize) -> bool
+    requires { at + n ≤ length t.now }
     ensures { result ≡ all (eqb 0) (part at n t.now) }
 {
     if 64 <= n {
-        return ends_zero::<64>(t, at, n);
+        return blocks_zero(t, at, n);
     }
     if 32 <= n {
         return ends_zero::<32>(t, at, n);
@@ -131,18 +144,13 @@ pub fn few_zero(t: &[u8], at: usize, n: usize) -> bool
     zeros(t, at, n)
 }
 
-// The same of any number, by blocks of 64 as far as they are zero. The last 64 may be some that were looked at before.
-pub fn all_zero(t: &[u8], at: usize, n: usize) -> bool
-    requires { at + n ≤ length t.now }
+// The same of at most 128 bytes, as the zeros after a DUID: most are more than half of them, and take no loop.
+pub fn few_zero(t: &[u8], at: usize, n: usize) -> bool
+    requires { (n ≤ 128) × (at + n ≤ length t.now) }
     ensures { result ≡ all (eqb 0) (part at n t.now) }
 {
-    if n < 64 {
-        return few_zero(t, at, n);
+    if 64 <= n {
+        return ends_zero::<64>(t, at, n);
     }
-    for k in 0..(n - 1) / 64 {
-        if !zeros(t, at + 64 * k, 64) {
-            return false;
-        }
-    }
-    zeros(t, at + (n - 64), 64)
+    all_zero(t, at, n)
 }

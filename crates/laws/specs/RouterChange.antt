@@ -3,30 +3,33 @@
 --   server_given, hold_given  the server to remember, or the known one where none is given; a new hold
 --   onto, ..-written        writes, one after another
 --   begin-.., again-.., close-made, accept-.., start-made, hold-..   the writes of each change, by the way that code takes
-use Rattle.std.specs.Prelude.{◌≡◌, cond, List, [], ◌∷◌, map, ℕ, ◌+◌, ◌%◌, ◌≤◌, ◌<◌, ◌^◌, length, set, replicate, Option, None, Some}
+use Rattle.std.specs.Prelude.{◌≡◌, Bool, cond, ◌||◌, List, [], ◌∷◌, ◌++◌, map, ℕ, ◌+◌, ◌%◌, ◌≤◌, ◌<◌, ◌^◌, length, take, drop, set, replicate, Option, None, Some}
 use Rattle.std.proofs.Math.Path.{refl, sym, ap}
-use Rattle.std.proofs.Common.{◌∙◌, subst, arith}
-use Rattle.std.proofs.Math.Bool.{true, false}
+use Rattle.std.proofs.Common.{◌∙◌, subst, arith, take-take}
+use Rattle.std.proofs.Math.Bool.{true, false, or_assoc}
 use Rattle.std.proofs.lemmas.Bool.{false≢true}
-use Rattle.std.proofs.Math.Dec.{eqb}
-use borrow.Author.Tests.{ne_eqb}
+use Rattle.std.proofs.Math.Dec.{eqb, leb}
+use Rattle.std.proofs.Math.Seq.{take_at}
+use borrow.Author.Tests.{ne_eqb, leb-true, leb-false, lt-ltb, le-ltb}
 use Rattle.rules.specs.Words.{part, splice, filled, num, be, num_at}
 use Rattle.rules.specs.Refusals.{done, unless}
 use Rattle.rules.specs.Prefix.{prefix, lease}
 use Rattle.rules.specs.Clock.{Moment}
-use Rattle.rules.specs.Identity.{Duid, Identity, identity, type_of, is_release}
+use Rattle.rules.specs.Identity.{Duid, Identity, identity, kind_of, type_of, is_release}
 use Rattle.rules.specs.Box.{start_tests}
 use Rattle.rules.specs.Router.{Hold, Exchange, Router, good_asker, number_after, holds, carries, is_open, exchange_for, begun, again, closed, router_start, open_of}
-use Rattle.rules.specs.RouterBytes.{lease_bytes, hold_bytes, duid_bytes, held_bytes, sent_bytes, exchange_bytes, router_bytes, some_if, router_of, sound_router_bytes}
+use Rattle.rules.specs.RouterBytes.{lease_bytes, hold_bytes, duid_bytes, held_bytes, sent_bytes, exchange_bytes, router_bytes, some_if, lease_of, hold_of, router_of, sound_router_bytes}
 use Rattle.rules.specs.declared.Kind.{Kind}
 use Rattle.rules.specs.declared.Kind.TheVariants.{Solicit, Request, Renew, Rebind, Release}
+use Rattle.laws.specs.Tests.{neither}
 use Rattle.laws.specs.Parts.{splice-splice, splice_all}
 use Rattle.laws.specs.Numbers.{length-be, be-num}
 use Rattle.laws.specs.Bits.{Sixteen}
 use Rattle.laws.specs.Flat.{be-one}
 use Rattle.laws.specs.Fields.{Fields, field_put, field_at}
-use Rattle.laws.specs.RouterFields.{duid-size, held-size, exchange-size, router_fields, router_sizes}
-use Rattle.laws.specs.RouterRepresent.{type-byte, inner-byte, lent-fields, fields-router}
+use Rattle.laws.specs.RouterFields.{lease-size, hold-size, duid-size, held-size, exchange-size, router_fields, router_sizes}
+use Rattle.laws.specs.RouterFlat.{num-part}
+use Rattle.laws.specs.RouterRepresent.{type-byte, inner-byte, inner-rest, lent-fields, fields-router}
 
 -- ---------------------------------------------------------------- what the changes leave
 
@@ -82,6 +85,13 @@ release-type Renew = refl
 release-type Rebind = refl
 release-type Release = refl
 
+carries-none : (d : Kind) → carries d None ≡ None
+carries-none Solicit = refl
+carries-none Request = refl
+carries-none Renew = refl
+carries-none Rebind = refl
+carries-none Release = refl
+
 -- the open exchange by its type
 pub open-type : (b : List ℕ) (o : Option Exchange) → part 346 35 b ≡ exchange_bytes o → is_open o ≡ true → (Some (open_of o) ≡ o) × (num_at b 346 1 ≡ type_of (open_of o).kind)
 open-type b None q h = absurd (false≢true h)
@@ -93,6 +103,48 @@ module _ (b : List ℕ) (sound : sound_router_bytes b ≡ true) (time : ℕ) whe
 
   abbrev fields : Fields b (router_fields (router_of b)) router_sizes
   fields = lent-fields b sound
+
+  -- the delegation that a message of type k carries; n and t are what code reads, the flag of the hold and its end
+  module _ (k : ℕ) {n t : ℕ} (en : n ≡ num_at b 303 1) (et : t ≡ num_at b 338 8) where
+    abbrev carries_none : Bool
+    carries_none = eqb k 1 || eqb k 3 || eqb n 0 || leb t time
+
+    end_read : num_at (part 304 42 b) 34 8 ≡ t
+    end_read = num-part b 304 42 34 8 (omega arith) ∙ sym et
+
+    held-not : eqb n 0 || leb t time ≡ true → holds time r.held ≡ None
+    unfolding router_of hold_of
+    held-not h = rw (← en, end_read) (by (eqb n 0) h)
+      where
+        by : (z : Bool) → z || leb t time ≡ true → holds time (cond z None (Some (record { lease = lease_of (part 304 42 b); end = t }))) ≡ None
+        by true h = refl
+        by false h = rw (le-ltb time t (leb-true t time h))
+
+    pub carried_none : carries_none ≡ true → replicate 34 0 ≡ sent_bytes (carries (kind_of k) (holds time r.held))
+    carried_none h = by (eqb k 1) (eqb k 3) (simp or_assoc at h)
+      where
+        by : (x y : Bool) → x || (y || (eqb n 0 || leb t time)) ≡ true
+            → replicate 34 0 ≡ sent_bytes (carries (cond x Solicit (cond y Request (cond (eqb k 5) Renew (cond (eqb k 6) Rebind Release)))) (holds time r.held))
+        by true y h = refl
+        by false true h = refl
+        by false false h = rw (held-not h, carries-none (cond (eqb k 5) Renew (cond (eqb k 6) Rebind Release)))
+
+    pub carried-held : carries_none ≡ false → part 304 34 b ≡ sent_bytes (carries (kind_of k) (holds time r.held))
+    unfolding router_of hold_of hold_bytes part
+    carried-held h =
+        let x = neither (eqb k 1 || eqb k 3 || eqb n 0) (leb t time) h in
+        let y = neither (eqb k 1 || eqb k 3) (eqb n 0) x.0 in
+        let z = neither (eqb k 1) (eqb k 3) y.0 in
+        let l = lease_of (part 304 42 b) in
+        let q : part 303 43 b ≡ 1 ∷ hold_bytes (hold_of (part 304 42 b)) = field_at fields 9 (omega arith) ∙ rw (← en, y.1) in
+        let e : part 304 42 b ≡ lease_bytes l ++ be 8 (num_at (part 304 42 b) 34 8) = inner-rest b 303 1 42 _ q (hold-size (hold_of (part 304 42 b))) in
+        let w : part 304 34 b ≡ lease_bytes l = sym (take-take 34 42 (drop 304 b) (omega arith)) ∙ ap (take 34) e ∙ take_at (lease_bytes l) _ 34 (lease-size l) in
+        rw (← en, y.1, end_read, lt-ltb time t (leb-false t time x.1), z.0, z.1) (w ∙ by (eqb k 5) (eqb k 6))
+      where
+        by : (f g : Bool) → lease_bytes (lease_of (part 304 42 b)) ≡ sent_bytes (carries (cond f Renew (cond g Rebind Release)) (Some (lease_of (part 304 42 b))))
+        by true g = refl
+        by false true = refl
+        by false false = refl
 
   -- ---------------------------------------------------------------- a new exchange
 

@@ -78,9 +78,12 @@ named_is Early = refl
 named_is State = refl
 named_is Unawaited = refl
 
-refuse-same : {A : Type 0} {r k : Refusal} → ◌≡◌ {A = Res A} (refuse (number_of r)) (refuse (number_of k)) → r ≡ k
-refuse-same {A} {r} {k} e =
-    let n : number_of r ≡ number_of k = cc in
+refuse-same : {A : Type 0} {n k : ℕ} → ◌≡◌ {A = Res A} (refuse n) (refuse k) → n ≡ k
+refuse-same e = cc
+
+same-refusal : {A : Type 0} {r k : Refusal} → ◌≡◌ {A = Res A} (refuse (number_of r)) (refuse (number_of k)) → r ≡ k
+same-refusal {A} {r} {k} e =
+    let n : number_of r ≡ number_of k = refuse-same e in
     sym (named_is r) ∙ ap named n ∙ named_is k
 
 done-same : {A : Type 0} {x y : A} → done x ≡ done y → x ≡ y
@@ -93,14 +96,21 @@ pub outcome-faithful : {A : Type 0} → Faithful {R = Result A Refusal} outcome
 outcome-faithful (Ok x) (Ok y) e = ap Ok (done-same e)
 outcome-faithful (Ok x) (Err k) e = absurd (refuse-done (sym e))
 outcome-faithful (Err n) (Ok y) e = absurd (refuse-done e)
-outcome-faithful (Err n) (Err k) e = ap Err (refuse-same e)
+outcome-faithful (Err n) (Err k) e = ap Err (same-refusal e)
 
 -- what an operation in code gives is told by its word and by the number with which it refuses: the word alone doesn't say which of `Ok` and `Err` it is
 pub given-same : (r r' : Result ℕ Refusal) → word_of r ≡ word_of r' → refused_by r ≡ refused_by r' → r ≡ r'
 given-same (Ok x) (Ok y) w n = ap Ok w
 given-same (Ok x) (Err k) w n = absurd (numbered k (sym n))
 given-same (Err k) (Ok y) w n = absurd (numbered k n)
-given-same (Err j) (Err k) w n = ap Err (refuse-same {A = ℕ} (ap refuse n))
+given-same (Err j) (Err k) w n = ap Err (same-refusal {A = ℕ} (ap refuse n))
+
+-- the same of a result beside what is left
+pub same-in-code : {X : Type 0} (r r' : Result ℕ Refusal × X) → ◌≡◌ {A = ℕ × X} (word_of r.0, r.1) (word_of r'.0, r'.1) → refused_by r.0 ≡ refused_by r'.0 → r ≡ r'
+same-in-code r r' w n =
+    let o : r.0 ≡ r'.0 = given-same r.0 r'.0 (ap (λ x. x.0) w) n in
+    let x : r.1 ≡ r'.1 = ap (λ x. x.1) w in
+    λ i. (o i, x i)
 
 -- values that are told apart by what is seen of them, where Q holds of them, or are then alike
 module _ {A B : Type 0} (see : A → B) (Q : A → Type 0) where
@@ -109,7 +119,7 @@ module _ {A B : Type 0} (see : A → B) (Q : A → Type 0) where
   read-alike same (Ok x) (Ok y) p q e = same x y p q (done-same e)
   read-alike same (Ok x) (Err k) p q e = refuse-done (sym e)
   read-alike same (Err n) (Ok y) p q e = refuse-done e
-  read-alike same (Err n) (Err k) p q e = refuse-same e
+  read-alike same (Err n) (Err k) p q e = same-refusal e
 
   pub read-same : ((x y : A) → Q x → Q y → see x ≡ see y → x ≡ y)
       → (r r' : Result A Refusal) → IfOk r Q → IfOk r' Q → projected see (outcome r) ≡ projected see (outcome r') → r ≡ r'
@@ -129,7 +139,7 @@ unfolding message
 message-faithful (Ok x) (Ok y) e = ap (λ v. Ok (message v)) (done-same e)
 message-faithful (Ok x) (Err k) e = absurd (refuse-done (sym e))
 message-faithful (Err n) (Ok y) e = absurd (refuse-done e)
-message-faithful (Err n) (Err k) e = ap Err (refuse-same e)
+message-faithful (Err n) (Err k) e = ap Err (same-refusal e)
 
 stretch-made : {a a' n n' : ℕ} → a ≡ a' → n ≡ n' → ◌≡◌ {A = Stretch} (record { start = a; len = n }) (record { start = a'; len = n' })
 stretch-made p q = rw (p, q)

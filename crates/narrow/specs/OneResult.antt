@@ -1,6 +1,7 @@
 -- One result only: two results that a public operation's promise allows are equal. Every public operation has its line, in the order of
--- docs/INTERFACE.md; each promise stands here as in the operation's contract for C. r is what an operation leaves: its word with each
--- lent array that it may write, or its answer.
+-- docs/INTERFACE.md; each promise stands here as in the operation's contract: r is what an operation leaves, its word with each lent
+-- array that it may write, or its answer. Where an operation in code gives a Result in place of the word, `in-code` is its line: what
+-- its line here promises of the word, with the clause that names the number of the refusal, allows one Result and the same lent bytes.
 use Rattle.std.specs.Prelude.{ℕ, ◌≡◌, List, [], Result, IfOk}
 use Rattle.rules.specs.Refusals.{outcome}
 use Rattle.std.proofs.Common.{sym, ◌∙◌}
@@ -18,7 +19,7 @@ use Rattle.rules.specs.declared.Kind.TheVariants.{Solicit, Request, Renew, Rebin
 use Rattle.wire.specs.Client.{client_stretch}
 use Rattle.lone.specs.Answers.{id_value, Fills, exclude_value, prefix_value, pd_head, projected, message_value}
 use Rattle.narrow.specs.Single.{Single, ExcludeBeside, PrefixBeside, SameRead}
-use Rattle.narrow.specs.Faithful.{one-result, one-result-beside, lent-faithful, room-faithful, all-faithful, plain-faithful, outcome-faithful, given-same, message-faithful, id-faithful, exclude-faithful, prefix-faithful}
+use Rattle.narrow.specs.Faithful.{one-result, one-result-beside, lent-faithful, room-faithful, all-faithful, plain-faithful, outcome-faithful, given-same, same-in-code, message-faithful, id-faithful, exclude-faithful, prefix-faithful}
 
 -- the word and the state; the word and the room; the word, the state and the room
 abbrev Two : Type 0
@@ -99,3 +100,11 @@ one-result-only = record {
   write-prefix = λ out x. one-result (room-faithful []) _;
   write-pd = λ out i. one-result (room-faithful []) _;
 }
+
+-- A word and what it leaves, whichever this is, for an operation that in code gives a Result: its line above and the number that refuses.
+pub in-code : {X : Type 0} {P : ℕ × X → Type 0} → Single P → (n : ℕ) → Single (λ (r : Result ℕ Refusal × X). P (word_of r.0, r.1) × (refused_by r.0 ≡ n))
+in-code one n r r' p q = same-in-code r r' (one (word_of r.0, r.1) (word_of r'.0, r'.1) p.0 q.0) (p.1 ∙ sym q.1)
+
+-- as of a writer: its room and what it gives
+pub write-pd-in-code : (out : List ℕ) (i : Ia) (n : ℕ) → Single (λ (r : Result ℕ Refusal × List ℕ). (ended (word_of r.0) [] r.1 ≡ written out (write_pd i)) × (refused_by r.0 ≡ n))
+write-pd-in-code out i = in-code (one-result-only.write-pd out i)

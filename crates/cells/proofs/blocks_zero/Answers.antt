@@ -1,7 +1,7 @@
 use Rattle.std.proofs.Common.{◌*◌, refl, sym, ◌∙◌, arith}
 use Rattle.rules.specs.Words.{part}
 use Rattle.cells.proofs.Laws.{block-more, block-other, block-last}
-use Rattle.cells.proofs.all_zero.Goals as goal
+use Rattle.cells.proofs.blocks_zero.Goals as goal
 
 pub loop-k-init : goal.loop-k-init
 unfolding part
@@ -14,4 +14,4 @@ pub loop-k-preserved : goal.loop-k-preserved
 loop-k-preserved c = block-more _ _ (64 * c.loop-k.k) 64 (omega arith) c.loop-k.invariant (sym c.zeros.ensures ∙ c.if-not-zeros.false)
 
 pub returns : goal.returns
-returns c = block-last _ _ (64 * c.loop-k.k) 64 _ c.loop-k.invariant c.if-n-lt64.false (omega (arith, c.loop-k-test.false)) (omega (arith, c.loop-k.auto.k-end)) c.zeros-2.ensures
+returns c = block-last _ _ (64 * c.loop-k.k) 64 _ c.loop-k.invariant c.requires.0 (omega (arith, c.loop-k-test.false)) (omega (arith, c.loop-k.auto.k-end)) c.zeros-2.ensures
