@@ -5,7 +5,7 @@
 --   zero-ends       zeros in the first block and in the last one, where there is no room for a third
 --   block-more      zeros block by block, and block-other, block-last
 --   equal           what `==` says; last-other: lists whose last bytes differ; same-more: one byte more is compared
---   written         all of these but `read` and `last-other`: src/lib.rt names them for every goal
+--   written         all of these but `read`, `last-other` and the blocks': src/lib.rt names them for every goal
 use Rattle.std.proofs.Common.{◌≡◌, ℕ, zero, suc, ◌+◌, ◌-◌, ◌*◌, ◌/◌, ◌%◌, ◌^◌, ◌≤◌, ◌<◌, Bool, true, false, ◌&&◌, List, [], ◌∷◌, ◌++◌, eqb, length, get_or, take, drop, replicate, refl, sym, ap, ◌∙◌, arith, zero-add, zero-mul, suc-add, append_assoc, append-nil, length-append, drop-drop, ne_eqb, bit_or, Fits, w8, w64}
 use Rattle.std.proofs.Math.Bool.{and_assoc, and-true}
 use Rattle.std.proofs.Math.Dec.{eqb-suc-zero}

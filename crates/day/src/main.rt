@@ -29,8 +29,9 @@ fn day(rt: &impl Print, text: &[u8]) -> io::Result<()> {
     Ok(())
 }
 
-// Reads until the room is full or the input ends: the front of the room, as far as it was filled. It stays a while, for each read
-// is given all the room that is left: of a socket that keeps its packets apart, io::copy would cut off what its own room doesn't hold.
+// Reads until the room is full or the input ends: the front of the room, as far as it was filled. The loop stays a
+// `while`, in which each read is given all the room that is left: `io::copy` has a room of its own, and of a packet that is longer
+// than that the rest would be lost.
 fn read_full<'a>(input: &mut impl Read, room: &'a mut [u8]) -> io::Result<&'a [u8]>
     ensures { IfOk result (λ text. length text.now ≤ length room.old) }
 {

@@ -1,7 +1,7 @@
 -- The law of one result, and that what a contract speaks of tells a result from every other.
 --   one-result, -beside    an equation of what a faithful view sees allows one result only; one with something said beside it
 --   lent-faithful, ..      the views that contracts take of a result
---   given-same             what an operation in code gives, by its word and its refusal
+--   given-same, same-in-code  what an operation in code gives, by its word and its refusal; with what it leaves
 --   read-alike, read-same  the view of a result by what is seen of its value
 use Rattle.std.specs.Prelude.{ℕ, ◌≡◌, refl, Bool, true, false, cond, List, [], ◌⊎◌, eqb, length, None, Some, Result, Ok, Err, IfOk}
 use Rattle.std.proofs.Common.{sym, ap, ◌∙◌, inl, inr, arith, eqb-true}

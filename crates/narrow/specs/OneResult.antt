@@ -1,7 +1,8 @@
 -- One result only: two results that a public operation's promise allows are equal. Every public operation has its line, in the order of
--- docs/INTERFACE.md; each promise stands here as in the operation's contract: r is what an operation leaves, its word with each lent
--- array that it may write, or its answer. Where an operation in code gives a Result in place of the word, `in-code` is its line: what
--- its line here promises of the word, with the clause that names the number of the refusal, allows one Result and the same lent bytes.
+-- docs/INTERFACE.md; each promise stands here as in the operation's contract. r is what an operation leaves: its word with each lent
+-- array that it may write, or its answer. Where an operation in code gives a Result in place of the word, its contract says the number of
+-- the refusal too, and its line with that allows one Result and one content of what is lent (`in-code`; of `live`, which writes nothing,
+-- `given`).
 use Rattle.std.specs.Prelude.{ℕ, ◌≡◌, List, [], Result, IfOk}
 use Rattle.rules.specs.Refusals.{outcome}
 use Rattle.std.proofs.Common.{sym, ◌∙◌}
@@ -101,10 +102,29 @@ one-result-only = record {
   write-pd = λ out i. one-result (room-faithful []) _;
 }
 
--- A word and what it leaves, whichever this is, for an operation that in code gives a Result: its line above and the number that refuses.
+-- Where a line above allows one word with what is left, that line and the number of the refusal allow one Result with what is left.
 pub in-code : {X : Type 0} {P : ℕ × X → Type 0} → Single P → (n : ℕ) → Single (λ (r : Result ℕ Refusal × X). P (word_of r.0, r.1) × (refused_by r.0 ≡ n))
 in-code one n r r' p q = same-in-code r r' (one (word_of r.0, r.1) (word_of r'.0, r'.1) p.0 q.0) (p.1 ∙ sym q.1)
 
--- as of a writer: its room and what it gives
-pub write-pd-in-code : (out : List ℕ) (i : Ia) (n : ℕ) → Single (λ (r : Result ℕ Refusal × List ℕ). (ended (word_of r.0) [] r.1 ≡ written out (write_pd i)) × (refused_by r.0 ≡ n))
-write-pd-in-code out i = in-code (one-result-only.write-pd out i)
+-- the writers, which no one calls but in code
+module _ (n : ℕ) (out : List ℕ) where
+  abbrev Gives : Type 0
+  Gives = Result ℕ Refusal × List ℕ
+
+  pub id-in-code : (w : ℕ) (d : List ℕ) → Single (λ (r : Gives). (ended (word_of r.0) [] r.1 ≡ written out (write_id w d)) × (refused_by r.0 ≡ n))
+  id-in-code w d = in-code (one-result-only.write-id out w d) n
+
+  pub request-in-code : Single (λ (r : Gives). (ended (word_of r.0) [] r.1 ≡ written out write_request) × (refused_by r.0 ≡ n))
+  request-in-code = in-code (one-result-only.write-request out) n
+
+  pub status-in-code : (k : ℕ) → Single (λ (r : Gives). (ended (word_of r.0) [] r.1 ≡ written out (write_status k)) × (refused_by r.0 ≡ n))
+  status-in-code k = in-code (one-result-only.write-status out k) n
+
+  pub exclude-in-code : (p e : Prefix) → Single (λ (r : Gives). (ended (word_of r.0) [] r.1 ≡ written out (write_exclude p e)) × (refused_by r.0 ≡ n))
+  exclude-in-code p e = in-code (one-result-only.write-exclude out p e) n
+
+  pub prefix-in-code : (x : Listed) → Single (λ (r : Gives). (ended (word_of r.0) [] r.1 ≡ written out (write_prefix x)) × (refused_by r.0 ≡ n))
+  prefix-in-code x = in-code (one-result-only.write-prefix out x) n
+
+  pub pd-in-code : (i : Ia) → Single (λ (r : Gives). (ended (word_of r.0) [] r.1 ≡ written out (write_pd i)) × (refused_by r.0 ≡ n))
+  pd-in-code i = in-code (one-result-only.write-pd out i) n
