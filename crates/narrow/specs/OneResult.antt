@@ -112,19 +112,19 @@ module _ (n : ℕ) (out : List ℕ) where
   Gives = Result ℕ Refusal × List ℕ
 
   pub id-in-code : (w : ℕ) (d : List ℕ) → Single (λ (r : Gives). (ended (word_of r.0) [] r.1 ≡ written out (write_id w d)) × (refused_by r.0 ≡ n))
-  id-in-code w d = in-code (one-result-only.write-id out w d) n
+  id-in-code w d = in-code (one-result (room-faithful []) (written out (write_id w d))) n
 
   pub request-in-code : Single (λ (r : Gives). (ended (word_of r.0) [] r.1 ≡ written out write_request) × (refused_by r.0 ≡ n))
-  request-in-code = in-code (one-result-only.write-request out) n
+  request-in-code = in-code (one-result (room-faithful []) (written out write_request)) n
 
   pub status-in-code : (k : ℕ) → Single (λ (r : Gives). (ended (word_of r.0) [] r.1 ≡ written out (write_status k)) × (refused_by r.0 ≡ n))
-  status-in-code k = in-code (one-result-only.write-status out k) n
+  status-in-code k = in-code (one-result (room-faithful []) (written out (write_status k))) n
 
   pub exclude-in-code : (p e : Prefix) → Single (λ (r : Gives). (ended (word_of r.0) [] r.1 ≡ written out (write_exclude p e)) × (refused_by r.0 ≡ n))
-  exclude-in-code p e = in-code (one-result-only.write-exclude out p e) n
+  exclude-in-code p e = in-code (one-result (room-faithful []) (written out (write_exclude p e))) n
 
   pub prefix-in-code : (x : Listed) → Single (λ (r : Gives). (ended (word_of r.0) [] r.1 ≡ written out (write_prefix x)) × (refused_by r.0 ≡ n))
-  prefix-in-code x = in-code (one-result-only.write-prefix out x) n
+  prefix-in-code x = in-code (one-result (room-faithful []) (written out (write_prefix x))) n
 
   pub pd-in-code : (i : Ia) → Single (λ (r : Gives). (ended (word_of r.0) [] r.1 ≡ written out (write_pd i)) × (refused_by r.0 ≡ n))
-  pd-in-code i = in-code (one-result-only.write-pd out i) n
+  pd-in-code i = in-code (one-result (room-faithful []) (written out (write_pd i))) n
